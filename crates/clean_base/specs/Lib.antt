@@ -1,0 +1,5 @@
+pub mod Device
+pub mod Exact
+pub mod Fields
+pub mod Memory
+pub mod Shelves

@@ -1,0 +1,33 @@
+// What is wrong with the input, and why a call stops.
+use crate::Name;
+use thiserror::Error;
+
+/// What is wrong with the input (docs/COMMANDS.md, "Refusals"). `file` is the file's place in the order of
+/// reading, `at` a byte of it.
+#[derive(Debug, Drop, Error, PartialEq, Eq)]
+pub enum InputFault {
+    /// The file has more bytes than its room, which is `at`.
+    #[error("longer than {at} bytes")]
+    TooLong { file: u32, at: u64 },
+    /// The first byte at which no token begins.
+    #[error("byte not allowed at {at}")]
+    BadByte { file: u32, at: u64 },
+    /// A string, a quoted name or a comment begins there and doesn't end.
+    #[error("text not ended at {at}")]
+    OpenText { file: u32, at: u64 },
+    /// The entry signature names no method with a body.
+    #[error("entry method not found")]
+    EntryMissing,
+    /// The file has a form that isn't built yet.
+    #[error("form not built yet")]
+    NotYet { file: u32 },
+}
+
+/// Why a call stops.
+#[derive(Debug, Drop, Error, PartialEq, Eq)]
+pub enum Stop {
+    #[error("{0}")]
+    Fault(InputFault),
+    #[error("out of memory")]
+    OutOfMemory,
+}

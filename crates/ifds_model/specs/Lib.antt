@@ -1,0 +1,4 @@
+pub mod Exact
+pub mod Machine
+pub mod Runs
+pub mod Count

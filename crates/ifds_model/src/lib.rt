@@ -1,0 +1,9 @@
+// Problems whose answers are the path edges and leaks of a stack machine: the machine, its runs, and the trait that
+// a solver is generic over. `clean_base` stands below; no crate that knows Jimple or a table does.
+#![tactic(auto)]
+
+pub mod node;
+pub mod problem;
+
+pub use node::{Context, Dir, Frame, Item, Leak, Move, Node};
+pub use problem::Problem;
