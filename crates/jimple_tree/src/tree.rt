@@ -1,4 +1,6 @@
 // The tree of a class (docs/FORMATS.md, "Tree"). Places in a body are numbers of statements, counted from 0.
+ghost use Rattle.std.specs.Prelude.{◌≡◌, ◌↔◌, IsTrue};
+
 use clean_base::{LocalId, Name, Seq};
 
 /// A class or an interface.
@@ -211,6 +213,15 @@ pub struct Sig {
     pub result: JType,
     pub name: Name,
     pub params: Seq<JType>,
+}
+
+impl Sig {
+    /// Whether two signatures are one and the same.
+    pub fn same(&self, other: &Sig) -> bool
+        ensures { IsTrue result ↔ (self.now ≡ other.now) }
+    {
+        self == other
+    }
 }
 
 /// A field signature, `<C: T f>`.
