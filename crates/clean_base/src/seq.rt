@@ -1,6 +1,7 @@
 // Lists, names and words, as contracts see them.
 ghost use Rattle.std.specs.Prelude.{◌≡◌, List, ℕ, string_bytes};
 
+use std::cmp::Ordering;
 use std::marker::Model;
 
 /// A list of items.
@@ -51,6 +52,35 @@ impl<T: Eq> Eq for Seq<T> {
     ghost use Rattle.std.specs.Cmp.Lexicographic.{lists_equiv};
 
     ghost laws = { lists_equiv T.Eq.laws };
+}
+
+impl<T: PartialOrd> PartialOrd for Seq<T> {
+    ghost use Rattle.std.specs.Cmp.Lexicographic.{slice_partial_cmp, lists_po};
+
+    ghost partial_cmp = { slice_partial_cmp T.partial_cmp };
+
+    ghost laws = { lists_po T.PartialOrd.laws };
+
+    fn partial_cmp(&self, other: &Seq<T>) -> Option<Ordering> {
+        self.as_slice().partial_cmp(other.as_slice())
+    }
+}
+
+/// The order of the first items that differ; a front comes before the whole.
+impl<T: Ord> Ord for Seq<T> {
+    ghost use Rattle.std.specs.Cmp.Lexicographic.{slice_cmp, lists_total, lists_agrees, lists_ties};
+
+    ghost cmp = { slice_cmp T.cmp };
+
+    ghost total = { lists_total T.total };
+
+    ghost matches_partial_cmp = { lists_agrees T.matches_partial_cmp };
+
+    ghost matches_eq = { lists_ties T.cmp T.matches_eq };
+
+    fn cmp(&self, other: &Seq<T>) -> Ordering {
+        self.as_slice().cmp(other.as_slice())
+    }
 }
 
 /// A name, as its bytes.
