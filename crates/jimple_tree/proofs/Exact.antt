@@ -1,5 +1,5 @@
 -- `==` on types and signatures tells apart whatever differs.
-use Rattle.std.proofs.Common.{◌≡◌, Bool, true, false, nat_eq, List, refl, subst}
+use Rattle.std.proofs.Common.{◌≡◌, ◌∙◌, sym, Bool, true, false, not, nat_eq, List, refl, subst}
 use Rattle.std.proofs.lemmas.Bool.{eq-eqb, eqb-true}
 use lib.Pointwise.{pointwise, bytes_decides, pointwise_decides}
 use mathlib.Core.Bool.{◌&&◌}
@@ -14,7 +14,7 @@ joined : (a b : Bool) → a ≡ true → b ≡ true → (a && b) ≡ true
 joined true b h k = k
 joined false b h k = cc
 
-abbrev same_type : JType → JType → Bool
+abbrev pub same_type : JType → JType → Bool
 same_type a b = pointwise nat_eq a.base b.base && nat_eq a.dims b.dims
 
 type_yes : (a b : JType) → same_type a b ≡ true → a ≡ b
@@ -51,3 +51,18 @@ sig_self a =
 
 pub sigs_decide : (a b : Sig) → (same_sig a b ≡ true → a ≡ b) × (a ≡ b → same_sig a b ≡ true)
 sigs_decide a b = (sig_yes a b, λ e. subst (λ c. same_sig a c ≡ true) e (sig_self a))
+
+-- where all but the parameters are the same, these decide
+pub params_decide : (a b : Sig) (r : Bool) → pointwise nat_eq a.class b.class ≡ true → pointwise nat_eq a.name b.name ≡ true → same_type a.result b.result ≡ true → r ≡ pointwise same_type a.params b.params
+    → (r ≡ true → a ≡ b) × (a ≡ b → r ≡ true)
+params_decide a b r class name value params = (
+  (λ yes. sig_yes a b (joined _ _ class (joined _ _ value (joined _ _ name (sym params ∙ yes))))),
+  (λ same.
+      let all = parts (pointwise nat_eq a.class b.class) _ ((sigs_decide a b).1 same) in
+      let rest = parts (same_type a.result b.result) _ all.1 in
+      params ∙ (parts (pointwise nat_eq a.name b.name) _ rest.1).1),
+)
+
+pub not_false : (b : Bool) → not b ≡ false → b ≡ true
+not_false true h = refl
+not_false false h = cc

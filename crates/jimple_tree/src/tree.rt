@@ -224,6 +224,19 @@ impl Sig {
     }
 }
 
+impl Method {
+    /// Whether the signature names this method, where it stands in the class of that name.
+    pub fn is_named(&self, class: &Name, sig: &Sig) -> bool
+        ensures { IsTrue result
+            ↔ (sig.now ≡ record { class = class.now; result = self.now.result; name = self.now.name; params = self.now.params }) }
+    {
+        if sig.class != *class || sig.name != self.name {
+            return false;
+        }
+        sig.result == self.result && sig.params == self.params
+    }
+}
+
 /// A field signature, `<C: T f>`.
 #[derive(Debug, Drop, PartialEq, Eq)]
 pub struct FieldSig {
