@@ -1,0 +1,5 @@
+pub mod Steps
+pub mod Sound
+pub mod Loops
+pub mod Whole
+pub mod Exact

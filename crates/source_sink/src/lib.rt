@@ -1,0 +1,10 @@
+// Sources and sinks: the text of method signatures, lists of them, and what a list says of a method. Trees of
+// classes (`jimple_tree`) stand below; the call graph and the tables of rules stand above.
+#![tactic(auto)]
+
+pub mod cursor;
+pub mod signature;
+#[cfg(test)]
+mod tests;
+
+pub use signature::read_sig;
