@@ -3,3 +3,7 @@ pub mod Sound
 pub mod Loops
 pub mod Whole
 pub mod Exact
+pub mod LineExact
+pub mod Along
+pub mod Indexed
+pub mod Named

@@ -10,17 +10,12 @@ use lib.Pointwise.{bytes_decides}
 use Rattle.jimple_tree.specs.declared.tree.JType.{JType}
 use Rattle.source_sink.specs.declared.cursor.Spaced.{Spaced}
 use Rattle.source_sink.specs.Signature.{is_name_byte, IsName, spaces, brackets, type_text, later_text, params_text, sig_text, HasNames}
-use Rattle.source_sink.specs.Reading.{sees, read_byte, read_bytes, name_len, read_name, is_space, read_spaces, without_spaces, pairs, without_pairs, read_type, read_later_type, read_later, read_params, read_sig}
+use Rattle.source_sink.specs.Reading.{sees, read_byte, name_len, read_name, is_space, read_spaces, without_spaces, pairs, without_pairs, read_type, read_later_type, read_later, read_params, read_sig}
 use Rattle.source_sink.proofs.Steps.{Reads, reads_then, reads_if, reads_unless, reads_either, reads_some_all}
 
 pub byte_read : (b : ℕ) (text : List ℕ) → Reads (read_byte b text) (λ u left. text ≡ b ∷ left)
 byte_read b [] = tt
 byte_read b (c ∷ cs) = reads_if (λ u left. c ∷ cs ≡ b ∷ left) (c == b) (Some (tt, cs)) (λ e. let same : c ≡ b = search rules in ap (λ (x : ℕ). x ∷ cs) same)
-
-pub bytes_read : (bytes text : List ℕ) → Reads (read_bytes bytes text) (λ u left. text ≡ bytes ++ left)
-bytes_read bytes text = reads_if (λ u left. text ≡ bytes ++ left) (starts_with nat_eq text bytes) (Some (tt, drop (length bytes) text))
-    (λ e. let same : bytes ≡ take (length bytes) text = (bytes_decides bytes (take (length bytes) text)).0 e in
-    sym (take-append-drop (length bytes) text) ∙ ap (λ (x : List ℕ). x ++ drop (length bytes) text) (sym same))
 
 -- the bytes of a run pass its test
 run_on : (p : ℕ → Bool) (c : ℕ) (cs : List ℕ) (b : Bool) → p c ≡ b → list_all p (take (prefix_len p cs) cs) ≡ true → list_all p (take (prefix_len p (c ∷ cs)) (c ∷ cs)) ≡ true

@@ -25,9 +25,6 @@ abbrev pub read_byte : ℕ → List ℕ → Read (Unit {0})
 read_byte b [] = None
 read_byte b (c ∷ cs) = if c == b then Some (tt, cs) else None
 
-abbrev pub read_bytes : List ℕ → List ℕ → Read (Unit {0})
-read_bytes bytes text = if starts_with nat_eq text bytes then Some (tt, drop (length bytes) text) else None
-
 abbrev pub name_len : List ℕ → ℕ
 name_len text = if starts_with nat_eq text (codes "<init>") then 6 else (if starts_with nat_eq text (codes "<clinit>") then 8 else prefix_len is_name_byte text)
 

@@ -1,8 +1,8 @@
 // Reads a signature from the front of a text, form by form. `signature` and `lists` stand above.
-ghost use Rattle.std.specs.Prelude.{◌≡◌, ◌≤◌, ◌+◌, ◌++◌, ◌*◌, List, ℕ, length, take, drop, [], ◌∷◌, ◌↔◌, IsTrue, Some, None, IfOk, OnOk};
-ghost use Rattle.std.specs.List.{prefix_len};
+ghost use Rattle.std.specs.Prelude.{◌≡◌, ◌≤◌, ◌+◌, ◌++◌, ◌*◌, List, ℕ, length, take, drop, [], ◌∷◌, ◌↔◌, IsTrue, Some, None, IfOk, OnOk, nat_eq, if◌then◌else◌};
+ghost use Rattle.std.specs.List.{prefix_len, starts_with};
 ghost use Rattle.source_sink.specs.Signature.{is_blank, is_sign, is_name_byte};
-ghost use Rattle.source_sink.specs.Reading.{Gives, GivesMore, sees, read_byte, read_bytes, name_len, read_name, is_space, read_spaces, without_spaces, pairs, without_pairs, read_type, read_later_type, read_later, read_params, read_sig};
+ghost use Rattle.source_sink.specs.Reading.{Gives, GivesMore, sees, read_byte, name_len, read_name, is_space, read_spaces, without_spaces, pairs, without_pairs, read_type, read_later_type, read_later, read_params, read_sig};
 
 use clean_base::{Name, Seq};
 use jimple_tree::{JType, Sig};
@@ -146,16 +146,17 @@ impl<'a> Cursor<'a> {
         }
     }
 
-    /// Takes exactly these bytes.
-    pub fn take_bytes(&mut self, bytes: &[u8]) -> Result<(), Miss>
-        ensures { Gives result self.new.left.now (read_bytes bytes.now self.old.left.now) }
+    /// Takes the word, where it stands in front.
+    pub fn take_word(&mut self, word: &[u8]) -> bool
+        ensures found { result ≡ starts_with nat_eq self.old.left.now word.now }
+        ensures left { self.new.left.now ≡ (if result then drop (length word.now) self.old.left.now else self.old.left.now) }
     {
-        match self.left.strip_prefix(bytes) {
+        match self.left.strip_prefix(word) {
             Some(left) => {
                 self.left = left;
-                Ok(())
+                true
             }
-            None => Err(Miss::Other),
+            None => false,
         }
     }
 

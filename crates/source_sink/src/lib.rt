@@ -2,9 +2,14 @@
 // classes (`jimple_tree`) stand below; the call graph and the tables of rules stand above.
 #![tactic(auto)]
 
-pub mod cursor;
-pub mod signature;
+mod cursor;
+mod index;
+mod line;
+mod lists;
+mod signature;
 #[cfg(test)]
 mod tests;
 
+pub use line::{Kind, Line};
+pub use lists::{Lists, read_lists};
 pub use signature::read_sig;

@@ -1,5 +1,6 @@
-// Texts with the signatures that they spell, and texts that spell none.
-use crate::read_sig;
+// Texts with the signatures that they spell, texts that spell none, and lists with what they say of methods.
+use crate::{Kind, read_lists, read_sig};
+use clean_base::{InputFault, Name, Stop};
 use jimple_tree::{JType, Sig};
 use std::test::Fail;
 
@@ -150,4 +151,146 @@ fn texts_without_a_signature(rt: HostRuntime) -> Result<(), Fail> {
         assert!(rt; read_sig(rt.alloc(), text)?.is_none(), "{text:?}");
     }
     Ok(())
+}
+
+struct Asked {
+    list: &'static [u8],
+    class: &'static [u8],
+    sig: &'static [u8],
+    source: bool,
+    sink: bool,
+}
+
+const TWO: &[u8] = b"<S: int src()> -> _SOURCE_\n<S: void snk(int)> -> _SINK_\n";
+
+const BOTH: &[u8] =
+    b"<S: int m()> -> _SOURCE_\n<S: int n()> -> _SINK_\n<S: int m(int,  int)> -> _SOURCE_\n<S: int m()> -> _SINK_\n";
+
+static KINDS: [Asked; 11] = [
+    Asked {
+        list: b"",
+        class: b"S",
+        sig: b"<S: int src()>",
+        source: false,
+        sink: false,
+    },
+    Asked {
+        list: TWO,
+        class: b"S",
+        sig: b"<S: int src()>",
+        source: true,
+        sink: false,
+    },
+    Asked {
+        list: TWO,
+        class: b"S",
+        sig: b"<S: void snk(int)>",
+        source: false,
+        sink: true,
+    },
+    Asked {
+        list: TWO,
+        class: b"S",
+        sig: b"<T: int src()>",
+        source: true,
+        sink: false,
+    },
+    Asked {
+        list: TWO,
+        class: b"T",
+        sig: b"<S: int src()>",
+        source: false,
+        sink: false,
+    },
+    Asked {
+        list: TWO,
+        class: b"S",
+        sig: b"<S: long src()>",
+        source: false,
+        sink: false,
+    },
+    Asked {
+        list: TWO,
+        class: b"S",
+        sig: b"<S: void snk(int[])>",
+        source: false,
+        sink: false,
+    },
+    Asked {
+        list: TWO,
+        class: b"S",
+        sig: b"<S: void snk()>",
+        source: false,
+        sink: false,
+    },
+    Asked {
+        list: BOTH,
+        class: b"S",
+        sig: b"<S: int m()>",
+        source: true,
+        sink: true,
+    },
+    Asked {
+        list: BOTH,
+        class: b"S",
+        sig: b"<S: int m(int,int)>",
+        source: true,
+        sink: false,
+    },
+    Asked {
+        list: BOTH,
+        class: b"S",
+        sig: b"<S: int n()>",
+        source: false,
+        sink: true,
+    },
+];
+
+static NO_LISTS: [&[u8]; 14] = [
+    b"\n",
+    b"<S: int src()> -> _SOURCE_",
+    b"<S: int src()> -> _SOURCE_\n<S: int src()> -> _SINK_",
+    b"<S: int src()> => _SOURCE_\n",
+    b"% sources\n<S: int src()> -> _SOURCE_\n",
+    b"<S: int src()> -> _BOTH_\n",
+    b"<S: int src()>  -> _SOURCE_\n",
+    b"<S: int src()> -> _SOURCE_ \n",
+    b" <S: int src()> -> _SOURCE_\n",
+    b"<S: int src()> -> _SOURCE_\r\n",
+    b"<S: int src()> -> _SOURCE_\n\n",
+    b"<S:  int src()> -> _SOURCE_\n",
+    b"<S: int  src()> -> _SOURCE_\n",
+    b"<S: void snk(int[])> -> _SINK_\n",
+];
+
+#[test]
+fn kinds_of_methods(rt: HostRuntime) -> Result<(), Fail> {
+    for asked in &KINDS {
+        let lists = read_lists(rt.alloc(), asked.list, 0)?;
+        let class = Name::from_vec(Vec::from_slice(rt.alloc(), asked.class)?);
+        match read_sig(rt.alloc(), asked.sig)? {
+            Some(sig) => {
+                let told = Kind {
+                    source: asked.source,
+                    sink: asked.sink,
+                };
+                assert_eq!(rt; lists.kind(&class, &sig), told, "{:?} {sig:?}", asked.list);
+            }
+            None => assert!(rt; false, "{:?}", asked.sig),
+        }
+    }
+    Ok(())
+}
+
+#[test]
+fn bytes_that_are_no_list(rt: HostRuntime) {
+    for bytes in &NO_LISTS {
+        match read_lists(rt.alloc(), bytes, 3) {
+            Err(stop) => assert!(rt;
+                stop == Stop::Fault(InputFault::NotYet { file: 3 }),
+                "{bytes:?} {stop:?}"
+            ),
+            Ok(lists) => assert!(rt; false, "{bytes:?} {lists:?}"),
+        }
+    }
 }
