@@ -188,12 +188,12 @@ impl<'a> Cursor<'a> {
     fn take_name(&mut self, alloc: Global) -> Result<Name, Miss>
         ensures { Gives result self.new.left.now (read_name self.old.left.now) }
     {
-        let n = name_len(self.left);
-        if n == 0 {
+        let len = name_len(self.left);
+        if len == 0 {
             return Err(Miss::Other);
         }
-        let name = name_of(alloc, self.left.split_at(n).0)?;
-        self.skip(n);
+        let name = name_of(alloc, self.left.split_at(len).0)?;
+        self.skip(len);
         Ok(name)
     }
 

@@ -17,9 +17,8 @@ pub fn read_sig(alloc: Global, text: &[u8]) -> Result<Option<Sig>, AllocError>
         Err(Miss::Other) => return Ok(None),
         Err(Miss::Memory) => return Err(AllocError),
     };
-    if cursor.is_at_end() {
-        Ok(Some(found.sig))
-    } else {
-        Ok(None)
+    if !cursor.is_at_end() {
+        return Ok(None);
     }
+    Ok(Some(found.sig))
 }

@@ -9,20 +9,20 @@ returns-in-Err-Other-clause-none c s h =
     let e : read_sig c.args.text.now ≡ None = ap read_sig (sym c.new-cursor.ensures) ∙ (rw c.in-Err-Other.field-0-is at c.in-Err-Other.ensures) in
     none_spelled c.args.text.now e s h
 
-pub returns-then-is_at_end-clause-some : goal.returns-then-is_at_end-clause-some
-returns-then-is_at_end-clause-some c =
+pub returns-clause-some : goal.returns-clause-some
+returns-clause-some c =
     let left = c.take_sig.new.self.left.now in
     let e : read_sig c.args.text.now ≡ Some (c.in-Ok.found, left) = ap read_sig (sym c.new-cursor.ensures) ∙ c.in-Ok.ensures in
-    let end : left ≡ [] = c.is_at_end.ensures.at_end.0 c.if-is_at_end.true in
+    let end : left ≡ [] = c.is_at_end.ensures.at_end.0 c.if-not-is_at_end.false in
     let whole : read_sig c.args.text.now ≡ Some (c.in-Ok.found, []) = e ∙ ap (λ (xs : List ℕ). let r : Read Spaced = Some (c.in-Ok.found, xs) in r) end in
     (read_is_spelled c.args.text.now c.in-Ok.found whole, λ s h. one_sig c.args.text.now c.in-Ok.found [] whole s h)
 
-pub returns-else-is_at_end-clause-none : goal.returns-else-is_at_end-clause-none
-returns-else-is_at_end-clause-none c s h =
+pub returns-then-not-is_at_end-clause-none : goal.returns-then-not-is_at_end-clause-none
+returns-then-not-is_at_end-clause-none c s h =
     let left = c.take_sig.new.self.left.now in
     let e : read_sig c.args.text.now ≡ Some (c.in-Ok.found, left) = ap read_sig (sym c.new-cursor.ensures) ∙ c.in-Ok.ensures in
     let end : left ≡ [] = none_left c.args.text.now c.in-Ok.found left e s h in
     let bad : c.is_at_end.result ≡ true = c.is_at_end.ensures.at_end.1 end in
-    let no : c.is_at_end.result ≡ false = c.if-is_at_end.false in
+    let no : c.is_at_end.result ≡ false = c.if-not-is_at_end.true in
     let clash : true ≡ false = sym bad ∙ no in
     cc
