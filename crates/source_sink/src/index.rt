@@ -15,12 +15,14 @@ pub struct Index {
     pub earlier: Vec<Option<usize>>,
 }
 
+// A copy of the name.
 fn copied(alloc: Global, name: &Name) -> Result<Name, AllocError>
     ensures { IfOk result (λ n. n ≡ name.now) }
 {
     Ok(Name::from_vec(Vec::from_slice(alloc, name.bytes())?))
 }
 
+/// The index of these lines.
 pub fn index_of(alloc: Global, lines: &[Line]) -> Result<Index, AllocError>
     ensures { IfOk result (λ index. IsIndex lines.now (length lines.now) index) }
 {

@@ -1,4 +1,4 @@
-// Lists of sources and sinks. `cursor` stands below; the call graph above.
+// Lists of sources and sinks: read line by line, and asked by signature. `cursor`, `line` and `index` stand below.
 ghost use Rattle.std.specs.Prelude.{◌≡◌, ◌↔◌, ◌==◌, List, length, drop, IfOk, IfErr, IsTrue, MatchResult, true};
 ghost use Rattle.std.specs.List.{list_all};
 ghost use Rattle.jimple_tree.specs.declared.tree.Sig.{Sig};
@@ -34,6 +34,7 @@ impl Model for Lists {
     ghost invariant = { λ s. IsIndex s.lines.items (length s.lines.items) s.index };
 }
 
+// The lines, with their index.
 fn indexed(alloc: Global, lines: Vec<Line>) -> Result<Lists, AllocError>
     ensures { IfOk result (λ l. l ≡ lines.items) }
 {
@@ -41,6 +42,7 @@ fn indexed(alloc: Global, lines: Vec<Line>) -> Result<Lists, AllocError>
     Ok(Lists { lines, index })
 }
 
+// Whether no type has brackets.
 fn is_bare(types: &[JType]) -> bool
     ensures { result ≡ is_bare types.now }
 {
@@ -70,6 +72,7 @@ fn take_mark(cursor: &mut Cursor<'_>) -> Result<bool, Miss>
     }
 }
 
+// Takes a line, with its line feed.
 fn take_line(alloc: Global, cursor: &mut Cursor<'_>) -> Result<Line, Miss>
     ensures { Gives result cursor.new.left.now (read_line cursor.old.left.now) }
 {
@@ -85,6 +88,7 @@ fn take_line(alloc: Global, cursor: &mut Cursor<'_>) -> Result<Line, Miss>
     })
 }
 
+// Takes lines up to the end.
 fn take_lines(alloc: Global, bytes: &[u8]) -> Result<Vec<Line>, Miss>
     ensures { MatchResult result (λ v. AreOnlyLines v.items bytes.now) (λ e. NoLinesBut e bytes.now) }
 {
