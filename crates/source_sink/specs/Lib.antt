@@ -1,0 +1,5 @@
+pub mod Signature
+pub mod Reading
+pub mod Lists
+pub mod ReadingLists
+pub mod Index
