@@ -8,6 +8,7 @@ use std::io::{Read, Seek, SeekFrom, Stderr, Stdout, Write};
 use std::rt::Files;
 
 /// The files of the system. One counter counts the faults of every name.
+#[derive(Drop)]
 pub struct StdShelf<'a, R: Files> {
     rt: &'a R,
     faults: u64,
