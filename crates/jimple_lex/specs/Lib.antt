@@ -1,0 +1,5 @@
+pub mod Bytes
+pub mod Forms
+pub mod Tokens
+pub mod Lexed
+pub mod Faults
