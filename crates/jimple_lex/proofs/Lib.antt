@@ -1,0 +1,13 @@
+pub mod Parts
+pub mod Segments
+pub mod Places
+pub mod Numbers
+pub mod Strings
+pub mod Comments
+pub mod Signs
+pub mod Fronts
+pub mod LongestSign
+pub mod Pieces
+pub mod FirstLetters
+pub mod Reading
+pub mod Spans

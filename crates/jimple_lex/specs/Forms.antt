@@ -48,19 +48,25 @@ pub record IsString (text : List ℕ) : Type 0 where
 abbrev pub is_one_of : List (List ℕ) → List ℕ → Bool
 is_one_of words text = list_any (bytes_eq text) words
 
-unfoldable pub is_sign : List ℕ → Bool
-is_sign = is_one_of (codes "{" ∷ codes "}" ∷ codes "(" ∷ codes ")" ∷ codes "[" ∷ codes "]" ∷ codes "," ∷ codes ";" ∷ codes ":" ∷ codes ":=" ∷ codes "." ∷ codes "@"
+unfoldable pub signs : List (List ℕ)
+signs = codes "{" ∷ codes "}" ∷ codes "(" ∷ codes ")" ∷ codes "[" ∷ codes "]" ∷ codes "," ∷ codes ";" ∷ codes ":" ∷ codes ":=" ∷ codes "." ∷ codes "@"
     ∷ codes "=" ∷ codes "==" ∷ codes "!=" ∷ codes "<" ∷ codes "<=" ∷ codes ">" ∷ codes ">=" ∷ codes "<<" ∷ codes ">>" ∷ codes ">>>"
-    ∷ codes "+" ∷ codes "-" ∷ codes "*" ∷ codes "/" ∷ codes "%" ∷ codes "&" ∷ codes "|" ∷ codes "^" ∷ [])
+    ∷ codes "+" ∷ codes "-" ∷ codes "*" ∷ codes "/" ∷ codes "%" ∷ codes "&" ∷ codes "|" ∷ codes "^" ∷ []
 
-unfoldable pub is_keyword : List ℕ → Bool
-is_keyword = is_one_of (codes "abstract" ∷ codes "final" ∷ codes "native" ∷ codes "public" ∷ codes "protected" ∷ codes "private" ∷ codes "static" ∷ codes "synchronized"
+unfoldable pub is_sign : List ℕ → Bool
+is_sign = is_one_of signs
+
+unfoldable pub keywords : List (List ℕ)
+keywords = codes "abstract" ∷ codes "final" ∷ codes "native" ∷ codes "public" ∷ codes "protected" ∷ codes "private" ∷ codes "static" ∷ codes "synchronized"
     ∷ codes "transient" ∷ codes "volatile" ∷ codes "strictfp" ∷ codes "enum" ∷ codes "annotation" ∷ codes "class" ∷ codes "interface" ∷ codes "void" ∷ codes "boolean"
     ∷ codes "byte" ∷ codes "short" ∷ codes "char" ∷ codes "int" ∷ codes "long" ∷ codes "float" ∷ codes "double" ∷ codes "null_type" ∷ codes "unknown" ∷ codes "extends"
     ∷ codes "implements" ∷ codes "breakpoint" ∷ codes "case" ∷ codes "catch" ∷ codes "cmp" ∷ codes "cmpg" ∷ codes "cmpl" ∷ codes "default" ∷ codes "entermonitor"
     ∷ codes "exitmonitor" ∷ codes "from" ∷ codes "goto" ∷ codes "if" ∷ codes "instanceof" ∷ codes "interfaceinvoke" ∷ codes "lengthof" ∷ codes "lookupswitch" ∷ codes "neg"
     ∷ codes "new" ∷ codes "newarray" ∷ codes "newmultiarray" ∷ codes "nop" ∷ codes "null" ∷ codes "ret" ∷ codes "return" ∷ codes "specialinvoke" ∷ codes "staticinvoke"
-    ∷ codes "dynamicinvoke" ∷ codes "tableswitch" ∷ codes "throw" ∷ codes "throws" ∷ codes "to" ∷ codes "virtualinvoke" ∷ codes "with" ∷ [])
+    ∷ codes "dynamicinvoke" ∷ codes "tableswitch" ∷ codes "throw" ∷ codes "throws" ∷ codes "to" ∷ codes "virtualinvoke" ∷ codes "with" ∷ []
+
+unfoldable pub is_keyword : List ℕ → Bool
+is_keyword = is_one_of keywords
 
 -- the end of a line, or of the text
 abbrev pub AtLineEnd : List ℕ → Type 0
