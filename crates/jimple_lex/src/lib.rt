@@ -1,16 +1,16 @@
 // The tokens of a Jimple text, or its first fault below the grammar. `clean_base` stands below, the reader of classes above.
 #![tactic(auto)]
 
-pub mod bytes;
-pub mod ends;
-pub mod front;
-pub mod keywords;
+mod bytes;
+mod ends;
+mod front;
+mod keywords;
 pub mod lexer;
-pub mod runs;
+mod runs;
 #[cfg(test)]
 mod tests;
 pub mod token;
-pub mod words;
+mod words;
 
 pub use lexer::lex;
 pub use token::{Token, TokenKind};
