@@ -1,0 +1,12 @@
+// Reads the text of a class. Tokens and trees stand below; the programs that work on classes above.
+#![tactic(auto)]
+
+pub mod cursor;
+pub mod kind;
+pub mod lexeme;
+pub mod raw;
+
+pub use cursor::{Cursor, ParseStop};
+pub use kind::Kind;
+pub use lexeme::Lexeme;
+pub use raw::{RawBody, RawCall, RawClass, RawDecl, RawImm, RawMethod, RawRhs, RawSig, RawStmt};
