@@ -6,3 +6,4 @@ pub mod SureForms
 pub mod Front
 pub mod Decls
 pub mod SureFile
+pub mod Loops

@@ -4,6 +4,7 @@
 pub mod cursor;
 pub mod kind;
 pub mod lexeme;
+mod parser;
 pub mod raw;
 
 pub use cursor::{Cursor, ParseStop};

@@ -1,0 +1,29 @@
+use Rattle.std.proofs.Common.{◌≡◌, refl, sym}
+use Rattle.std.proofs.lemmas.Result.{err_from_is_err_and}
+use Rattle.jimple_text.specs.Reading.{reading}
+use Rattle.jimple_text.specs.Forms.{assign, call, call_stmt, stmt, returned, stmts}
+use Rattle.jimple_text.proofs.Shrink.{shrinks}
+use Rattle.jimple_text.proofs.Loops.{onward, ended, end_failed, failed}
+use Rattle.jimple_text.proofs.cursor.Cursor.stmts.Goals as goal
+
+pub loop-alloc-smaller : goal.loop-alloc-smaller
+unfolding stmt assign call_stmt call
+loop-alloc-smaller c = shrinks stmt c.loop-alloc.self.left.now (c.in_ok-next.next, c.stmt.new.self.left.now) c.in_ok-next.ensures
+
+pub loop-alloc-preserved : goal.loop-alloc-preserved
+unfolding stmt assign call_stmt call
+loop-alloc-preserved c = rw c.in_ok-push.ensures.items (onward _ _ stmt returned (reading stmts c.args.self.now.left.now) c.loop-alloc.stmts.items c.loop-alloc.self.left.now (c.in_ok-next.next, c.stmt.new.self.left.now) c.loop-alloc.invariant (sym c.loop-alloc-test.ensures) c.in_ok-next.ensures refl)
+
+pub returns-in_err-next : goal.returns-in_err-next
+unfolding stmt assign call_stmt call
+returns-in_err-next c =
+    let p = err_from_is_err_and c.from_residual.result c.from_residual.ensures.1 in
+    rw (p.1, p.2) (failed _ _ stmt returned (reading stmts c.args.self.now.left.now) c.loop-alloc.stmts.items c.loop-alloc.self.left.now c.in_err-next.field-0.0 c.loop-alloc.invariant (sym c.loop-alloc-test.ensures) refl c.in_err-next.ensures)
+
+pub returns-in_err-returned : goal.returns-in_err-returned
+returns-in_err-returned c =
+    let p = err_from_is_err_and c.from_residual-in_err-returned.result c.from_residual-in_err-returned.ensures.1 in
+    rw (p.1, p.2) (end_failed _ _ stmt returned (reading stmts c.args.self.now.left.now) c.loop-alloc.stmts.items c.loop-alloc.self.left.now c.in_err-returned.field-0.0 c.loop-alloc.invariant (sym c.loop-alloc-test.ensures) c.in_err-returned.ensures)
+
+pub returns : goal.returns
+returns c = (ended _ _ stmt returned (reading stmts c.args.self.now.left.now) c.loop-alloc.stmts.items c.loop-alloc.self.left.now c.in_ok-returned.field-0 c.returned.new.self.left.now c.loop-alloc.invariant (sym c.loop-alloc-test.ensures) c.in_ok-returned.ensures)
