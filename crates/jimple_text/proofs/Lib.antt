@@ -7,3 +7,5 @@ pub mod Front
 pub mod Decls
 pub mod SureFile
 pub mod Loops
+pub mod Whole
+pub mod ByLength

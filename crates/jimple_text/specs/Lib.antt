@@ -4,3 +4,7 @@ pub mod Grammar
 pub mod Reading
 pub mod Gives
 pub mod Forms
+pub mod Stops
+pub mod Kinds
+pub mod Shape
+pub mod Lexemes

@@ -4,8 +4,10 @@
 pub mod cursor;
 pub mod kind;
 pub mod lexeme;
+mod kinds;
 mod parser;
 pub mod raw;
+mod shape;
 
 pub use cursor::{Cursor, ParseStop};
 pub use kind::Kind;
