@@ -8,3 +8,5 @@ pub mod Stops
 pub mod Kinds
 pub mod Shape
 pub mod Lexemes
+pub mod Names
+pub mod Resolving

@@ -5,6 +5,7 @@ pub mod cursor;
 pub mod kind;
 pub mod lexeme;
 mod kinds;
+mod names;
 mod parser;
 pub mod raw;
 mod shape;
