@@ -9,3 +9,4 @@ pub mod SureFile
 pub mod Loops
 pub mod Whole
 pub mod ByLength
+pub mod Locals

@@ -64,3 +64,8 @@ find_rhs bytes own ls (raw_sides.Call k) = find_call bytes own ls k >? λ c. Som
 abbrev pub find_stmt : List ℕ → List ℕ → List Local → RawStmt → Option Stmt
 find_stmt bytes own ls (raw_stmts.Assign t r) = find_local bytes ls t >? λ i. find_rhs bytes own ls r >? λ y. Some (stmts.Assign (places.Local i) y)
 find_stmt bytes own ls (raw_stmts.Call k) = find_call bytes own ls k >? λ c. Some (stmts.Call c)
+
+-- why the pass stops: want of memory at any time, or this
+abbrev pub Refuses : Type 0 → NameStop → Type 0
+Refuses why stops.OutOfMemory = Unit {0}
+Refuses why stops.NotBuilt = why

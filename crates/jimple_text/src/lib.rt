@@ -8,6 +8,7 @@ mod kinds;
 mod names;
 mod parser;
 pub mod raw;
+mod scope;
 mod shape;
 
 pub use cursor::{Cursor, ParseStop};

@@ -1,0 +1,28 @@
+// What names stand for inside a body. The raw tree stands below; the pass over names above.
+ghost use Rattle.std.specs.Prelude.{◌≡◌, ◌≤◌, ◌<◌, ◌^◌, List, ℕ, length, nat_eq, IfOk, IfErr, OnOk, Option};
+ghost use Rattle.std.specs.Borrow.{Bor};
+ghost use Rattle.std.specs.Cmp.Lexicographic.{pointwise};
+ghost use Rattle.std.specs.HashMap.{get};
+ghost use Rattle.jimple_text.specs.Names.{text, Distinct};
+ghost use Rattle.jimple_text.specs.Resolving.{number_of, Refuses};
+
+use crate::names::NameStop;
+use jimple_tree::Local;
+use std::alloc::Global;
+use std::collections::HashMap;
+
+/// The number of each local by its name, where no two have one name.
+pub fn table<'a>(alloc: Global, locals: &'a [Local]) -> Result<HashMap<&'a [u8], u16>, NameStop>
+    requires { length locals.now < 2 ^ 16 }
+    ensures numbers { IfOk result (λ m. (q : Bor (List ℕ)) → get (λ x y. pointwise nat_eq x.now y.now) m q ≡ number_of locals.now q.now) }
+    ensures distinct { OnOk result (Distinct locals.now) }
+    ensures err { IfErr result (Refuses (Distinct locals.now → ⊥)) }
+{
+    let mut numbers = HashMap::new(alloc);
+    for (number, local) in locals.iter().enumerate() {
+        if numbers.insert(local.name.bytes(), number as u16)?.is_some() {
+            return Err(NameStop::NotBuilt);
+        }
+    }
+    Ok(numbers)
+}
