@@ -10,3 +10,4 @@ pub mod Loops
 pub mod Whole
 pub mod ByLength
 pub mod Locals
+pub mod Finding

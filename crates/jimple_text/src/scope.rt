@@ -3,7 +3,7 @@ ghost use Rattle.std.specs.Prelude.{◌≡◌, ◌≤◌, ◌<◌, ◌^◌, List
 ghost use Rattle.std.specs.Borrow.{Bor};
 ghost use Rattle.std.specs.Cmp.Lexicographic.{pointwise};
 ghost use Rattle.std.specs.HashMap.{get};
-ghost use Rattle.jimple_text.specs.Names.{text, Distinct};
+ghost use Rattle.jimple_text.specs.Names.{Distinct};
 ghost use Rattle.jimple_text.specs.Resolving.{number_of, Refuses};
 
 use crate::names::NameStop;
@@ -11,8 +11,16 @@ use jimple_tree::Local;
 use std::alloc::Global;
 use std::collections::HashMap;
 
+/// A body's locals, and the number of each by its name.
+#[derive(Drop)]
+pub struct Scope<'a> {
+    locals: &'a [Local],
+    numbers: HashMap<&'a [u8], u16>,
+    ghost numbered: { (q : Bor (List ℕ)) → get (λ x y. pointwise nat_eq x.now y.now) numbers q ≡ number_of locals.now q.now },
+}
+
 /// The number of each local by its name, where no two have one name.
-pub fn table<'a>(alloc: Global, locals: &'a [Local]) -> Result<HashMap<&'a [u8], u16>, NameStop>
+fn table<'a>(alloc: Global, locals: &'a [Local]) -> Result<HashMap<&'a [u8], u16>, NameStop>
     requires { length locals.now < 2 ^ 16 }
     ensures numbers { IfOk result (λ m. (q : Bor (List ℕ)) → get (λ x y. pointwise nat_eq x.now y.now) m q ≡ number_of locals.now q.now) }
     ensures distinct { OnOk result (Distinct locals.now) }
@@ -25,4 +33,24 @@ pub fn table<'a>(alloc: Global, locals: &'a [Local]) -> Result<HashMap<&'a [u8],
         }
     }
     Ok(numbers)
+}
+
+impl<'a> Scope<'a> {
+    /// The scope of these locals, where no two have one name.
+    pub fn new(alloc: Global, locals: &'a [Local]) -> Result<Scope<'a>, NameStop>
+        requires { length locals.now < 2 ^ 16 }
+        ensures locals { IfOk result (λ s. s.locals.now ≡ locals.now) }
+        ensures distinct { OnOk result (Distinct locals.now) }
+        ensures err { IfErr result (Refuses (Distinct locals.now → ⊥)) }
+    {
+        let numbers = table(alloc, locals)?;
+        Ok(Scope { locals, numbers })
+    }
+
+    /// The number of the local of that name.
+    pub fn number(&self, name: &[u8]) -> Option<u16>
+        ensures { result ≡ number_of self.now.locals.now name.now }
+    {
+        self.numbers.get(name).copied()
+    }
 }
