@@ -11,3 +11,5 @@ pub mod Whole
 pub mod ByLength
 pub mod Locals
 pub mod Finding
+pub mod Found
+pub mod Resolved

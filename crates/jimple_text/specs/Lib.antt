@@ -10,3 +10,4 @@ pub mod Shape
 pub mod Lexemes
 pub mod Names
 pub mod Resolving
+pub mod Built

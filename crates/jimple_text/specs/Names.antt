@@ -16,9 +16,11 @@ use Rattle.jimple_tree.specs.declared.tree.Rhs.{Rhs}
 use Rattle.jimple_tree.specs.declared.tree.Rhs.TheVariants as sides
 use Rattle.jimple_tree.specs.declared.tree.Place.TheVariants as places
 use Rattle.jimple_tree.specs.declared.tree.Stmt.{Stmt}
-use Rattle.jimple_tree.specs.declared.tree.Stmt.TheVariants as stmts
+use Rattle.jimple_tree.specs.declared.tree.Stmt.TheVariants as stmts_are
 use Rattle.jimple_text.specs.declared.lexeme.Lexeme.{Lexeme}
 use Rattle.jimple_text.specs.declared.raw.RawClass.{RawClass}
+use Rattle.jimple_text.specs.declared.raw.RawMethod.{RawMethod}
+use Rattle.jimple_text.specs.declared.raw.RawBody.{RawBody}
 use Rattle.jimple_text.specs.declared.raw.RawDecl.{RawDecl}
 use Rattle.jimple_text.specs.declared.raw.RawStmt.{RawStmt}
 use Rattle.jimple_text.specs.declared.raw.RawStmt.TheVariants as raw_stmts
@@ -87,33 +89,43 @@ RhsIs bytes own ls (raw_sides.Use x) v = (y : Imm) × ImmIs bytes ls x y × (v �
 RhsIs bytes own ls (raw_sides.Call k) v = (c : Invoke) × CallIs bytes own ls k c × (v ≡ sides.Call c)
 
 abbrev pub StmtIs : List ℕ → List ℕ → List Local → RawStmt → Stmt → Type 0
-StmtIs bytes own ls (raw_stmts.Assign t r) v = (i : LocalId) × (y : Rhs) × Names bytes ls t i × RhsIs bytes own ls r y × (v ≡ stmts.Assign (places.Local i) y)
-StmtIs bytes own ls (raw_stmts.Call k) v = (c : Invoke) × CallIs bytes own ls k c × (v ≡ stmts.Call c)
+StmtIs bytes own ls (raw_stmts.Assign t r) v = (i : LocalId) × (y : Rhs) × Names bytes ls t i × RhsIs bytes own ls r y × (v ≡ stmts_are.Assign (places.Local i) y)
+StmtIs bytes own ls (raw_stmts.Call k) v = (c : Invoke) × CallIs bytes own ls k c × (v ≡ stmts_are.Call c)
 
--- The class of these locals and statements, with the return behind them.
-abbrev pub class_with : List ℕ → RawClass → List Local → List Stmt → Class
-class_with bytes raw ls ss = record {
+-- The body of these declarations and statements, with the return behind the statements.
+pub record BodyIs (bytes own : List ℕ) (raw : RawBody) (v : Body) : Type 0 where
+  pub distinct : Distinct (locals bytes raw.decls)
+  pub few_locals : length (locals bytes raw.decls) ≤ 65535
+  pub few_stmts : length raw.stmts < 4194304
+  pub stmts : List Stmt
+  pub each : Each (StmtIs bytes own (locals bytes raw.decls)) raw.stmts stmts
+  pub is : v ≡ record { locals = locals bytes raw.decls; stmts = stmts ++ stmts_are.Return None ∷ []; catches = [] }
+
+-- the method of that name and body
+abbrev pub method_with : List ℕ → RawMethod → Body → Method
+method_with bytes raw body = record {
+  modifiers = codes "public" ∷ codes "static" ∷ [];
+  result = record { base = codes "void"; dims = 0 };
+  name = text bytes raw.name;
+  params = [];
+  throws = [];
+  body = Some body;
+}
+
+abbrev pub class_with : List ℕ → RawClass → Body → Class
+class_with bytes raw body = record {
   modifiers = codes "public" ∷ [];
   is_interface = false;
   name = text bytes raw.name;
   extends = text bytes raw.superclass ∷ [];
   implements = [];
   fields = [];
-  methods = (record {
-    modifiers = codes "public" ∷ codes "static" ∷ [];
-    result = record { base = codes "void"; dims = 0 };
-    name = text bytes raw.method.name;
-    params = [];
-    throws = [];
-    body = Some (record { locals = ls; stmts = ss ++ stmts.Return None ∷ []; catches = [] });
-  }) ∷ [];
+  methods = method_with bytes raw.method body ∷ [];
 }
 
+-- The class of a raw class, which doesn't extend itself.
 pub record Resolves (bytes : List ℕ) (raw : RawClass) (v : Class) : Type 0 where
   pub differ : text bytes raw.name ≡ text bytes raw.superclass → ⊥
-  pub distinct : Distinct (locals bytes raw.method.body.decls)
-  pub few_locals : length (locals bytes raw.method.body.decls) ≤ 65535
-  pub few_stmts : length raw.method.body.stmts < 4194304
-  pub stmts : List Stmt
-  pub each : Each (StmtIs bytes (text bytes raw.name) (locals bytes raw.method.body.decls)) raw.method.body.stmts stmts
-  pub is : v ≡ class_with bytes raw (locals bytes raw.method.body.decls) stmts
+  pub body : Body
+  pub body_is : BodyIs bytes (text bytes raw.name) raw.method.body body
+  pub is : v ≡ class_with bytes raw body

@@ -25,11 +25,15 @@ use Rattle.jimple_text.specs.declared.names.NameStop.{NameStop}
 use Rattle.jimple_text.specs.declared.names.NameStop.TheVariants as stops
 use Rattle.jimple_text.specs.Names.{text, sig_of, call_to}
 
+-- why the pass stops: want of memory at any time, or this
+abbrev pub Refuses : Type 0 → NameStop → Type 0
+Refuses why stops.OutOfMemory = Unit {0}
+Refuses why stops.NotBuilt = why
+
 -- What a function of the pass gives: the value that is found, seen so; no value; or want of memory at any time.
 abbrev pub Finds : {X Y : Type 0} → (X → Y) → Result X NameStop → Option Y → Type 0
 Finds view (Ok x) found = found ≡ Some (view x)
-Finds view (Err stops.OutOfMemory) found = Unit {0}
-Finds view (Err stops.NotBuilt) found = found ≡ None
+Finds view (Err e) found = Refuses (found ≡ None) e
 
 infixl 10 ◌>?◌
 abbrev pub ◌>?◌ : {A B : Type 0} → Option A → (A → Option B) → Option B
@@ -64,8 +68,3 @@ find_rhs bytes own ls (raw_sides.Call k) = find_call bytes own ls k >? λ c. Som
 abbrev pub find_stmt : List ℕ → List ℕ → List Local → RawStmt → Option Stmt
 find_stmt bytes own ls (raw_stmts.Assign t r) = find_local bytes ls t >? λ i. find_rhs bytes own ls r >? λ y. Some (stmts.Assign (places.Local i) y)
 find_stmt bytes own ls (raw_stmts.Call k) = find_call bytes own ls k >? λ c. Some (stmts.Call c)
-
--- why the pass stops: want of memory at any time, or this
-abbrev pub Refuses : Type 0 → NameStop → Type 0
-Refuses why stops.OutOfMemory = Unit {0}
-Refuses why stops.NotBuilt = why

@@ -8,6 +8,7 @@ mod kinds;
 mod names;
 mod parser;
 pub mod raw;
+mod resolve;
 mod resolver;
 mod scope;
 mod shape;

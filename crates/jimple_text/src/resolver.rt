@@ -17,15 +17,16 @@ use std::alloc::Global;
 const MOST_ARGUMENTS: usize = 255;
 
 /// The bytes of the text, the name of the class that they give, and the locals of its method.
+#[derive(Drop)]
 pub struct Resolver<'a> {
     pub bytes: &'a [u8],
     pub own: &'a [u8],
-    pub scope: &'a Scope<'a>,
+    pub scope: Scope<'a>,
 }
 
 impl<'a> Resolver<'a> {
     fn local(&self, token: Lexeme) -> Result<LocalId, NameStop>
-        ensures { Finds (λ x. x) result (find_local self.now.bytes.now self.now.scope.now.locals.now token) }
+        ensures { Finds (λ x. x) result (find_local self.now.bytes.now self.now.scope.locals.now token) }
     {
         match self.scope.number(text(self.bytes, token)) {
             Some(number) => Ok(LocalId(number)),
@@ -34,7 +35,7 @@ impl<'a> Resolver<'a> {
     }
 
     fn imm(&self, alloc: Global, raw: RawImm) -> Result<Imm, NameStop>
-        ensures { Finds (λ x. x) result (find_imm self.now.bytes.now self.now.scope.now.locals.now raw) }
+        ensures { Finds (λ x. x) result (find_imm self.now.bytes.now self.now.scope.locals.now raw) }
     {
         match raw {
             RawImm::Local(token) => Ok(Imm::Local(self.local(token)?)),
@@ -43,7 +44,7 @@ impl<'a> Resolver<'a> {
     }
 
     fn imms(&self, alloc: Global, raw: &[RawImm]) -> Result<Vec<Imm>, NameStop>
-        ensures { Finds (λ v. v.items) result (find_all (find_imm self.now.bytes.now self.now.scope.now.locals.now) raw.now) }
+        ensures { Finds (λ v. v.items) result (find_all (find_imm self.now.bytes.now self.now.scope.locals.now) raw.now) }
     {
         let mut imms = Vec::with_capacity(alloc, raw.len())?;
         for operand in raw {
@@ -60,7 +61,7 @@ impl<'a> Resolver<'a> {
     }
 
     fn call(&self, alloc: Global, raw: &RawCall) -> Result<Invoke, NameStop>
-        ensures { Finds (λ x. x) result (find_call self.now.bytes.now self.now.own.now self.now.scope.now.locals.now raw.now) }
+        ensures { Finds (λ x. x) result (find_call self.now.bytes.now self.now.own.now self.now.scope.locals.now raw.now) }
     {
         if self.is_refused(raw) {
             return Err(NameStop::NotBuilt);
@@ -76,7 +77,7 @@ impl<'a> Resolver<'a> {
     }
 
     fn rhs(&self, alloc: Global, raw: &RawRhs) -> Result<Rhs, NameStop>
-        ensures { Finds (λ x. x) result (find_rhs self.now.bytes.now self.now.own.now self.now.scope.now.locals.now raw.now) }
+        ensures { Finds (λ x. x) result (find_rhs self.now.bytes.now self.now.own.now self.now.scope.locals.now raw.now) }
     {
         match raw {
             RawRhs::Use(operand) => Ok(Rhs::Use(self.imm(alloc, *operand)?)),
@@ -85,7 +86,7 @@ impl<'a> Resolver<'a> {
     }
 
     fn stmt(&self, alloc: Global, raw: &RawStmt) -> Result<Stmt, NameStop>
-        ensures { Finds (λ x. x) result (find_stmt self.now.bytes.now self.now.own.now self.now.scope.now.locals.now raw.now) }
+        ensures { Finds (λ x. x) result (find_stmt self.now.bytes.now self.now.own.now self.now.scope.locals.now raw.now) }
     {
         match raw {
             RawStmt::Assign(target, value) => {
@@ -99,7 +100,7 @@ impl<'a> Resolver<'a> {
 
     /// The statements, without the `return` behind them.
     pub fn stmts(&self, alloc: Global, raw: &[RawStmt]) -> Result<Vec<Stmt>, NameStop>
-        ensures { Finds (λ v. v.items) result (find_all (find_stmt self.now.bytes.now self.now.own.now self.now.scope.now.locals.now) raw.now) }
+        ensures { Finds (λ v. v.items) result (find_all (find_stmt self.now.bytes.now self.now.own.now self.now.scope.locals.now) raw.now) }
     {
         let mut stmts = Vec::with_capacity(alloc, raw.len())?;
         for next in raw {

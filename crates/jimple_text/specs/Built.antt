@@ -1,0 +1,31 @@
+-- What a text of the grammar built so far is, as classes.
+use Rattle.std.specs.Prelude.{◌≡◌, ℕ, true, List, [], ◌∷◌}
+use Rattle.clean_base.specs.declared.fault.Stop.{Stop}
+use Rattle.clean_base.specs.declared.fault.Stop.TheVariants.{Fault, OutOfMemory}
+use Rattle.clean_base.specs.declared.fault.InputFault.{InputFault}
+use Rattle.clean_base.specs.declared.fault.InputFault.TheVariants.{NotYet}
+use Rattle.jimple_lex.specs.Lexed.{Lexed}
+use Rattle.jimple_lex.specs.declared.token.Token.{Token}
+use Rattle.jimple_tree.specs.declared.tree.Class.{Class}
+use Rattle.jimple_text.specs.declared.raw.RawClass.{RawClass}
+use Rattle.jimple_text.specs.Shape.{is_plain}
+use Rattle.jimple_text.specs.Lexemes.{lexemes}
+use Rattle.jimple_text.specs.Grammar.{Spells}
+use Rattle.jimple_text.specs.Forms.{file}
+use Rattle.jimple_text.specs.Names.{Resolves}
+
+-- The bytes are the text of one class: simple tokens with nothing but white space round them, which spell a file whose names resolve.
+pub record IsBuilt (bytes : List ℕ) (classes : List Class) : Type 0 where
+  pub tokens : List Token
+  pub lexed : Lexed 0 bytes tokens
+  pub plain : is_plain bytes 0 tokens ≡ true
+  pub raw : RawClass
+  pub spelled : Spells file (lexemes bytes tokens) raw
+  pub class : Class
+  pub resolved : Resolves bytes raw class
+  pub one : classes ≡ class ∷ []
+
+-- why no classes are given: want of memory at any time, or a form that isn't built, and of which there are no classes
+abbrev pub NotBuilt : ℕ → List ℕ → Stop → Type 0
+NotBuilt number bytes OutOfMemory = Unit {0}
+NotBuilt number bytes (Fault fault) = (fault ≡ NotYet number) × ((classes : List Class) → IsBuilt bytes classes → ⊥)
