@@ -13,3 +13,4 @@ pub mod Locals
 pub mod Finding
 pub mod Found
 pub mod Resolved
+pub mod Classes

@@ -8,23 +8,23 @@ use Rattle.jimple_tree.specs.declared.tree.Class.{Class}
 use Rattle.jimple_text.specs.declared.raw.RawStmt.{RawStmt}
 use Rattle.jimple_text.specs.declared.raw.RawBody.{RawBody}
 use Rattle.jimple_text.specs.declared.raw.RawClass.{RawClass}
-use Rattle.jimple_text.specs.declared.names.NameStop.{NameStop}
-use Rattle.jimple_text.specs.declared.names.NameStop.TheVariants as stops
+use Rattle.jimple_text.specs.declared.stop.BuildStop.{BuildStop}
+use Rattle.jimple_text.specs.declared.stop.BuildStop.TheVariants as stops
 use Rattle.jimple_text.specs.Names.{text, locals, Distinct, Each, StmtIs, BodyIs, Resolves, class_with}
 use Rattle.jimple_text.specs.Resolving.{Finds, Refuses, find_all, find_stmt}
 use Rattle.jimple_text.proofs.Found.{stmts_found, stmts_none, stmts_one}
 
-pub refuses : {P Q : Type 0} (e : NameStop) → (P → Q) → Refuses P e → Refuses Q e
+pub refuses : {P Q : Type 0} (e : BuildStop) → (P → Q) → Refuses P e → Refuses Q e
 refuses stops.OutOfMemory f h = tt
 refuses stops.NotBuilt f h = f h
 
-pub stmts_refused : (bytes own : List ℕ) (ls ms : List Local) (raw : List RawStmt) (e : NameStop) → ms ≡ ls → Refuses (find_all (find_stmt bytes own ms) raw ≡ None) e → Refuses (Distinct ls → (ss : List Stmt) → Each (StmtIs bytes own ls) raw ss → ⊥) e
+pub stmts_refused : (bytes own : List ℕ) (ls ms : List Local) (raw : List RawStmt) (e : BuildStop) → ms ≡ ls → Refuses (find_all (find_stmt bytes own ms) raw ≡ None) e → Refuses (Distinct ls → (ss : List Stmt) → Each (StmtIs bytes own ls) raw ss → ⊥) e
 stmts_refused bytes own ls ms raw e s h = refuses e (λ n d ss each. stmts_none bytes ls own d raw (subst (λ (ks : List Local). find_all (find_stmt bytes own ks) raw ≡ None) s n) ss each) h
 
 pub stmts_with : (bytes own : List ℕ) (ls ms : List Local) (raw : List RawStmt) (ss vs : List Stmt) → ms ≡ ls → find_all (find_stmt bytes own ms) raw ≡ Some ss → vs ≡ ss ++ stmts_are.Return None ∷ [] → (xs : List Stmt) × Each (StmtIs bytes own ls) raw xs × (vs ≡ xs ++ stmts_are.Return None ∷ [])
 stmts_with bytes own ls ms raw ss vs s h e = (ss, stmts_found bytes ls own raw ss (subst (λ (ks : List Local). find_all (find_stmt bytes own ks) raw ≡ Some ss) s h), e)
 
-pub body_refused : (bytes own : List ℕ) (raw : RawBody) (ls : List Local) (rs : List RawStmt) (e : NameStop) → ls ≡ locals bytes raw.decls → rs ≡ raw.stmts → Refuses (Distinct ls → (ss : List Stmt) → Each (StmtIs bytes own ls) rs ss → ⊥) e → Refuses ((b : Body) → BodyIs bytes own raw b → ⊥) e
+pub body_refused : (bytes own : List ℕ) (raw : RawBody) (ls : List Local) (rs : List RawStmt) (e : BuildStop) → ls ≡ locals bytes raw.decls → rs ≡ raw.stmts → Refuses (Distinct ls → (ss : List Stmt) → Each (StmtIs bytes own ls) rs ss → ⊥) e → Refuses ((b : Body) → BodyIs bytes own raw b → ⊥) e
 body_refused bytes own raw ls rs e l r h = refuses e
   (λ f b k. f (subst Distinct (sym l) k.distinct) k.stmts
     (subst (λ (xs : List RawStmt). Each (StmtIs bytes own ls) xs k.stmts) (sym r) (subst (λ (ms : List Local). Each (StmtIs bytes own ms) raw.stmts k.stmts) (sym l) k.each))) h

@@ -14,15 +14,17 @@ use Rattle.jimple_text.specs.Grammar.{Spells}
 use Rattle.jimple_text.specs.Forms.{file}
 use Rattle.jimple_text.specs.Names.{Resolves}
 
+-- The tokens spell a file whose names resolve to the class.
+abbrev pub IsClassOf : List ℕ → List Token → Class → Type 0
+IsClassOf bytes tokens class = (raw : RawClass) × Spells file (lexemes bytes tokens) raw × Resolves bytes raw class
+
 -- The bytes are the text of one class: simple tokens with nothing but white space round them, which spell a file whose names resolve.
 pub record IsBuilt (bytes : List ℕ) (classes : List Class) : Type 0 where
   pub tokens : List Token
   pub lexed : Lexed 0 bytes tokens
   pub plain : is_plain bytes 0 tokens ≡ true
-  pub raw : RawClass
-  pub spelled : Spells file (lexemes bytes tokens) raw
   pub class : Class
-  pub resolved : Resolves bytes raw class
+  pub spelled : IsClassOf bytes tokens class
   pub one : classes ≡ class ∷ []
 
 -- why no classes are given: want of memory at any time, or a form that isn't built, and of which there are no classes

@@ -21,17 +21,25 @@ use Rattle.jimple_text.specs.declared.raw.RawRhs.TheVariants as raw_sides
 use Rattle.jimple_text.specs.declared.raw.RawImm.{RawImm}
 use Rattle.jimple_text.specs.declared.raw.RawImm.TheVariants as raw_imms
 use Rattle.jimple_text.specs.declared.raw.RawCall.{RawCall}
-use Rattle.jimple_text.specs.declared.names.NameStop.{NameStop}
-use Rattle.jimple_text.specs.declared.names.NameStop.TheVariants as stops
+use Rattle.jimple_text.specs.declared.cursor.ParseStop.{ParseStop}
+use Rattle.jimple_text.specs.declared.cursor.ParseStop.TheVariants as parses
+use Rattle.jimple_text.specs.declared.stop.BuildStop.{BuildStop}
+use Rattle.jimple_text.specs.declared.stop.BuildStop.TheVariants as stops
 use Rattle.jimple_text.specs.Names.{text, sig_of, call_to}
 
 -- why the pass stops: want of memory at any time, or this
-abbrev pub Refuses : Type 0 → NameStop → Type 0
+abbrev pub Refuses : Type 0 → BuildStop → Type 0
 Refuses why stops.OutOfMemory = Unit {0}
 Refuses why stops.NotBuilt = why
 
+-- a stop of the parser, as one of the whole
+abbrev pub as_build : ParseStop → BuildStop
+as_build parses.OutOfMemory = stops.OutOfMemory
+as_build (parses.Syntax at) = stops.NotBuilt
+as_build (parses.Refused why at) = stops.NotBuilt
+
 -- What a function of the pass gives: the value that is found, seen so; no value; or want of memory at any time.
-abbrev pub Finds : {X Y : Type 0} → (X → Y) → Result X NameStop → Option Y → Type 0
+abbrev pub Finds : {X Y : Type 0} → (X → Y) → Result X BuildStop → Option Y → Type 0
 Finds view (Ok x) found = found ≡ Some (view x)
 Finds view (Err e) found = Refuses (found ≡ None) e
 

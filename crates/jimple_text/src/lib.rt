@@ -9,10 +9,13 @@ mod names;
 mod parser;
 pub mod raw;
 mod resolve;
+mod read;
 mod resolver;
 mod scope;
 mod shape;
+mod stop;
 
+pub use read::read_classes;
 pub use cursor::{Cursor, ParseStop};
 pub use kind::Kind;
 pub use lexeme::Lexeme;

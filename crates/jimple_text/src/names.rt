@@ -10,37 +10,7 @@ use crate::lexeme::Lexeme;
 use crate::raw::{RawDecl, RawSig};
 use clean_base::{Name, Seq};
 use jimple_tree::{JType, Local, Sig};
-use std::alloc::{AllocError, AllocFailed, Global};
-
-/// Why the pass stops.
-#[derive(Debug, Drop)]
-pub enum NameStop {
-    OutOfMemory,
-    /// A rule on names is broken, or a limit is passed.
-    NotBuilt,
-}
-
-impl From<AllocError> for NameStop {
-    ghost use Rattle.std.specs.Prelude.{◌≡◌};
-    ghost use Rattle.jimple_text.specs.declared.names.NameStop.TheVariants.{OutOfMemory};
-
-    ghost from_gives = { λ _ e. e ≡ OutOfMemory };
-
-    fn from(_e: AllocError) -> NameStop {
-        NameStop::OutOfMemory
-    }
-}
-
-impl<T: Drop> From<AllocFailed<T>> for NameStop {
-    ghost use Rattle.std.specs.Prelude.{◌≡◌};
-    ghost use Rattle.jimple_text.specs.declared.names.NameStop.TheVariants.{OutOfMemory};
-
-    ghost from_gives = { λ _ e. e ≡ OutOfMemory };
-
-    fn from(_e: AllocFailed<T>) -> NameStop {
-        NameStop::OutOfMemory
-    }
-}
+use std::alloc::{AllocError, Global};
 
 /// The bytes of a token. A place past the end counts as the end.
 pub fn text<'a>(bytes: &'a [u8], token: Lexeme) -> &'a [u8]

@@ -7,10 +7,11 @@ ghost use Rattle.jimple_tree.specs.declared.tree.Class.{Class};
 ghost use Rattle.jimple_text.specs.Names.{Distinct, Each, StmtIs, BodyIs, Resolves, method_with, class_with};
 ghost use Rattle.jimple_text.specs.Resolving.{Refuses};
 
-use crate::names::{NameStop, locals, name, text};
+use crate::names::{locals, name, text};
 use crate::raw::{RawBody, RawClass, RawMethod, RawStmt};
 use crate::resolver::Resolver;
 use crate::scope::Scope;
+use crate::stop::BuildStop;
 use clean_base::{Name, Seq};
 use jimple_tree::{Body, Class, JType, Local, Method, Stmt};
 use std::alloc::{AllocError, Global};
@@ -22,7 +23,7 @@ const MOST_LOCALS: usize = 65_535;
 const MOST_STATEMENTS: usize = 4_194_304;
 
 /// The statements over these locals, and the return behind them.
-fn statements(alloc: Global, bytes: &[u8], own: &[u8], locals: &[Local], raw: &[RawStmt]) -> Result<Vec<Stmt>, NameStop>
+fn statements(alloc: Global, bytes: &[u8], own: &[u8], locals: &[Local], raw: &[RawStmt]) -> Result<Vec<Stmt>, BuildStop>
     requires { length locals.now < 2 ^ 16 }
     ensures distinct { OnOk result (Distinct locals.now) }
     ensures ok { IfOk result (λ v. (ss : List Stmt) × Each (StmtIs bytes.now own.now locals.now) raw.now ss × (v.items ≡ ss ++ stmts_are.Return None ∷ [])) }
@@ -35,16 +36,16 @@ fn statements(alloc: Global, bytes: &[u8], own: &[u8], locals: &[Local], raw: &[
     Ok(stmts)
 }
 
-fn body(alloc: Global, bytes: &[u8], own: &[u8], raw: &RawBody) -> Result<Body, NameStop>
+fn body(alloc: Global, bytes: &[u8], own: &[u8], raw: &RawBody) -> Result<Body, BuildStop>
     ensures ok { IfOk result (λ b. BodyIs bytes.now own.now raw.now b) }
     ensures err { IfErr result (Refuses ((b : Body) → BodyIs bytes.now own.now raw.now b → ⊥)) }
 {
     if raw.stmts.as_slice().len() >= MOST_STATEMENTS {
-        return Err(NameStop::NotBuilt);
+        return Err(BuildStop::NotBuilt);
     }
     let locals = locals(alloc, bytes, raw.decls.as_slice())?;
     if locals.len() > MOST_LOCALS {
-        return Err(NameStop::NotBuilt);
+        return Err(BuildStop::NotBuilt);
     }
     let stmts = statements(alloc, bytes, own, locals.as_slice(), raw.stmts.as_slice())?;
     Ok(Body {
@@ -113,13 +114,13 @@ fn class(alloc: Global, bytes: &[u8], raw: &RawClass, body: Body) -> Result<Clas
 }
 
 /// The class of a raw class: its names resolve, its limits hold, and it doesn't extend itself.
-pub fn resolve(alloc: Global, bytes: &[u8], raw: &RawClass) -> Result<Class, NameStop>
+pub fn resolve(alloc: Global, bytes: &[u8], raw: &RawClass) -> Result<Class, BuildStop>
     ensures ok { IfOk result (λ c. Resolves bytes.now raw.now c) }
     ensures err { IfErr result (Refuses ((c : Class) → Resolves bytes.now raw.now c → ⊥)) }
 {
     let own = text(bytes, raw.name);
     if own == text(bytes, raw.superclass) {
-        return Err(NameStop::NotBuilt);
+        return Err(BuildStop::NotBuilt);
     }
     let body = body(alloc, bytes, own, &raw.method.body)?;
     let class = class(alloc, bytes, raw, body)?;

@@ -6,9 +6,10 @@ ghost use Rattle.std.specs.Str.{bytes_eq};
 ghost use Rattle.jimple_text.specs.Resolving.{Finds, find_local, find_imm, find_all, find_call, find_rhs, find_stmt};
 
 use crate::lexeme::Lexeme;
-use crate::names::{NameStop, name, sig, text};
+use crate::names::{name, sig, text};
 use crate::raw::{RawCall, RawImm, RawRhs, RawStmt};
 use crate::scope::Scope;
+use crate::stop::BuildStop;
 use clean_base::{LocalId, Seq};
 use jimple_tree::{Imm, Invoke, InvokeKind, Place, Rhs, Stmt};
 use std::alloc::Global;
@@ -25,16 +26,16 @@ pub struct Resolver<'a> {
 }
 
 impl<'a> Resolver<'a> {
-    fn local(&self, token: Lexeme) -> Result<LocalId, NameStop>
+    fn local(&self, token: Lexeme) -> Result<LocalId, BuildStop>
         ensures { Finds (λ x. x) result (find_local self.now.bytes.now self.now.scope.locals.now token) }
     {
         match self.scope.number(text(self.bytes, token)) {
             Some(number) => Ok(LocalId(number)),
-            None => Err(NameStop::NotBuilt),
+            None => Err(BuildStop::NotBuilt),
         }
     }
 
-    fn imm(&self, alloc: Global, raw: RawImm) -> Result<Imm, NameStop>
+    fn imm(&self, alloc: Global, raw: RawImm) -> Result<Imm, BuildStop>
         ensures { Finds (λ x. x) result (find_imm self.now.bytes.now self.now.scope.locals.now raw) }
     {
         match raw {
@@ -43,7 +44,7 @@ impl<'a> Resolver<'a> {
         }
     }
 
-    fn imms(&self, alloc: Global, raw: &[RawImm]) -> Result<Vec<Imm>, NameStop>
+    fn imms(&self, alloc: Global, raw: &[RawImm]) -> Result<Vec<Imm>, BuildStop>
         ensures { Finds (λ v. v.items) result (find_all (find_imm self.now.bytes.now self.now.scope.locals.now) raw.now) }
     {
         let mut imms = Vec::with_capacity(alloc, raw.len())?;
@@ -60,11 +61,11 @@ impl<'a> Resolver<'a> {
         text(self.bytes, raw.sig.class) == self.own || raw.args.as_slice().len() > MOST_ARGUMENTS
     }
 
-    fn call(&self, alloc: Global, raw: &RawCall) -> Result<Invoke, NameStop>
+    fn call(&self, alloc: Global, raw: &RawCall) -> Result<Invoke, BuildStop>
         ensures { Finds (λ x. x) result (find_call self.now.bytes.now self.now.own.now self.now.scope.locals.now raw.now) }
     {
         if self.is_refused(raw) {
-            return Err(NameStop::NotBuilt);
+            return Err(BuildStop::NotBuilt);
         }
         let args = self.imms(alloc, raw.args.as_slice())?;
         let sig = sig(alloc, self.bytes, &raw.sig)?;
@@ -76,7 +77,7 @@ impl<'a> Resolver<'a> {
         })
     }
 
-    fn rhs(&self, alloc: Global, raw: &RawRhs) -> Result<Rhs, NameStop>
+    fn rhs(&self, alloc: Global, raw: &RawRhs) -> Result<Rhs, BuildStop>
         ensures { Finds (λ x. x) result (find_rhs self.now.bytes.now self.now.own.now self.now.scope.locals.now raw.now) }
     {
         match raw {
@@ -85,7 +86,7 @@ impl<'a> Resolver<'a> {
         }
     }
 
-    fn stmt(&self, alloc: Global, raw: &RawStmt) -> Result<Stmt, NameStop>
+    fn stmt(&self, alloc: Global, raw: &RawStmt) -> Result<Stmt, BuildStop>
         ensures { Finds (λ x. x) result (find_stmt self.now.bytes.now self.now.own.now self.now.scope.locals.now raw.now) }
     {
         match raw {
@@ -99,7 +100,7 @@ impl<'a> Resolver<'a> {
     }
 
     /// The statements, without the `return` behind them.
-    pub fn stmts(&self, alloc: Global, raw: &[RawStmt]) -> Result<Vec<Stmt>, NameStop>
+    pub fn stmts(&self, alloc: Global, raw: &[RawStmt]) -> Result<Vec<Stmt>, BuildStop>
         ensures { Finds (λ v. v.items) result (find_all (find_stmt self.now.bytes.now self.now.own.now self.now.scope.locals.now) raw.now) }
     {
         let mut stmts = Vec::with_capacity(alloc, raw.len())?;

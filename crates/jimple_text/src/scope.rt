@@ -6,7 +6,7 @@ ghost use Rattle.std.specs.HashMap.{get};
 ghost use Rattle.jimple_text.specs.Names.{Distinct};
 ghost use Rattle.jimple_text.specs.Resolving.{number_of, Refuses};
 
-use crate::names::NameStop;
+use crate::stop::BuildStop;
 use jimple_tree::Local;
 use std::alloc::Global;
 use std::collections::HashMap;
@@ -20,7 +20,7 @@ pub struct Scope<'a> {
 }
 
 /// The number of each local by its name, where no two have one name.
-fn table<'a>(alloc: Global, locals: &'a [Local]) -> Result<HashMap<&'a [u8], u16>, NameStop>
+fn table<'a>(alloc: Global, locals: &'a [Local]) -> Result<HashMap<&'a [u8], u16>, BuildStop>
     requires { length locals.now < 2 ^ 16 }
     ensures numbers { IfOk result (λ m. (q : Bor (List ℕ)) → get (λ x y. pointwise nat_eq x.now y.now) m q ≡ number_of locals.now q.now) }
     ensures distinct { OnOk result (Distinct locals.now) }
@@ -29,7 +29,7 @@ fn table<'a>(alloc: Global, locals: &'a [Local]) -> Result<HashMap<&'a [u8], u16
     let mut numbers = HashMap::new(alloc);
     for (number, local) in locals.iter().enumerate() {
         if numbers.insert(local.name.bytes(), number as u16)?.is_some() {
-            return Err(NameStop::NotBuilt);
+            return Err(BuildStop::NotBuilt);
         }
     }
     Ok(numbers)
@@ -37,7 +37,7 @@ fn table<'a>(alloc: Global, locals: &'a [Local]) -> Result<HashMap<&'a [u8], u16
 
 impl<'a> Scope<'a> {
     /// The scope of these locals, where no two have one name.
-    pub fn new(alloc: Global, locals: &'a [Local]) -> Result<Scope<'a>, NameStop>
+    pub fn new(alloc: Global, locals: &'a [Local]) -> Result<Scope<'a>, BuildStop>
         requires { length locals.now < 2 ^ 16 }
         ensures locals { IfOk result (λ s. s.locals.now ≡ locals.now) }
         ensures distinct { OnOk result (Distinct locals.now) }
