@@ -1,6 +1,5 @@
 -- A declaration shows by its first two tokens, where statements come after the declarations.
-use Rattle.std.proofs.Common.{◌≡◌, ◌⊎◌, ℕ, zero, suc, Bool, true, false, cond, List, [], ◌∷◌, ◌++◌, refl, rules, length, sym, ◌∙◌, ap, subst, inl, inr, append-nil, append_assoc}
-use mathlib.Core.Bool.{◌&&◌, ◌||◌}
+use Rattle.std.proofs.Common.{◌≡◌, ◌⊎◌, ℕ, true, false, List, [], ◌∷◌, ◌++◌, refl, sym, ◌∙◌, ap, subst, inl, inr}
 use Rattle.jimple_text.specs.declared.kind.Kind.{Kind}
 use Rattle.jimple_text.specs.declared.kind.Kind.TheVariants as kinds
 use Rattle.jimple_text.specs.declared.lexeme.Lexeme.{Lexeme}
@@ -9,13 +8,13 @@ use Rattle.jimple_text.specs.declared.raw.RawStmt.{RawStmt}
 use Rattle.jimple_text.specs.declared.raw.RawRhs.{RawRhs}
 use Rattle.jimple_text.specs.Kind.{Kinds, has}
 use Rattle.jimple_text.specs.Words.{names, primitives, types}
-use Rattle.jimple_text.specs.Grammar.{Look, Grammar, token, both, Spells, Begins, BeginsBy, ManySpells, last, more, ManyBegins, piece, end, later, ◌*>◌, ◌<*◌}
-use Rattle.jimple_text.specs.Reading.{sees, sees_one, may_be_empty, first}
-use Rattle.jimple_text.specs.Forms.{sign, name, ty, several_names, rhs, assign, assigned, declared_as, second, call, call_stmt, stmt, returned, stmts, before_stmt, before_decl, decl, body, method, file}
-use Rattle.jimple_text.proofs.Starts.{disjoint, next, Follow, laws, empty_when, not_both, or_left, or_right, and_both, and_parts, has_left, has_right}
-use Rattle.jimple_text.proofs.Sure.{Sure, Tells, PieceBegins, PieceSpells, starts, apart, or_cases, off_when}
-use Rattle.jimple_text.proofs.SureForms.{sure_decl, sure_stmts, sure_stmt, sure_assign, sure_call_stmt, sure_rhs, sure_returned, sure_names}
-use Rattle.jimple_text.proofs.Front.{token_off, token_on, token_spelled, two_long}
+use Rattle.jimple_text.specs.Grammar.{Grammar, Spells, BeginsBy, ManySpells, last, more, ManyBegins, piece, end, later, ◌*>◌, ◌<*◌}
+use Rattle.jimple_text.specs.Reading.{may_be_empty}
+use Rattle.jimple_text.specs.Forms.{sign, several_names, rhs, assign, assigned, declared_as, second, call, call_stmt, stmt, returned, stmts, decl}
+use Rattle.jimple_text.proofs.Starts.{disjoint, laws, empty_when, not_both, or_left, or_right}
+use Rattle.jimple_text.proofs.Sure.{PieceBegins, starts, apart, or_cases, off_when}
+use Rattle.jimple_text.proofs.SureForms.{sure_stmts, sure_call_stmt, sure_rhs, sure_names}
+use Rattle.jimple_text.proofs.Front.{token_off, token_on, two_long}
 
 abbrev dec : Type 0
 dec = RawDecl

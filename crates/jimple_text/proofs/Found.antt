@@ -1,5 +1,5 @@
 -- What is found is what a raw tree is, and there is no other.
-use Rattle.std.proofs.Common.{◌≡◌, ◌⊎◌, ℕ, zero, suc, ◌<◌, ◌≤◌, Bool, true, false, cond, nat_lt, List, [], ◌∷◌, ◌++◌, length, Option, Some, None, refl, sym, ◌∙◌, ap, subst, inl, inr, rules, arith}
+use Rattle.std.proofs.Common.{◌≡◌, ℕ, Bool, true, false, nat_lt, List, [], ◌∷◌, length, Option, Some, None, refl, sym, ◌∙◌, ap, rules, arith}
 use mathlib.Core.Bool.{◌||◌}
 use Rattle.std.specs.Str.{bytes_eq}
 use Rattle.clean_base.specs.declared.ids.LocalId.{LocalId}

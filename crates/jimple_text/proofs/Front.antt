@@ -1,5 +1,5 @@
 -- Forms that begin with one token: what stands in front of what begins or spells them.
-use Rattle.std.proofs.Common.{◌≡◌, ◌⊎◌, ℕ, Bool, true, false, List, [], ◌∷◌, ◌++◌, refl, sym, ◌∙◌, ap, subst, inl, inr}
+use Rattle.std.proofs.Common.{◌≡◌, ℕ, true, false, List, [], ◌∷◌, ◌++◌, refl, sym, ◌∙◌, ap, subst, inl, inr}
 use Rattle.jimple_text.specs.declared.lexeme.Lexeme.{Lexeme}
 use Rattle.jimple_text.specs.Kind.{Kinds, has}
 use Rattle.jimple_text.specs.Grammar.{Grammar, token, both, Spells, BeginsBy}

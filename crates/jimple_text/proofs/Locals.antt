@@ -1,5 +1,5 @@
 -- Locals by name: their numbers, and that no two have one name.
-use Rattle.std.proofs.Common.{◌≡◌, ◌⊎◌, ℕ, zero, suc, ◌+◌, Bool, true, false, cond, List, [], ◌∷◌, ◌++◌, length, ◌<◌, take, drop, Option, Some, None, refl, sym, ◌∙◌, ap, subst, inl, inr, rules, arith}
+use Rattle.std.proofs.Common.{◌≡◌, ℕ, zero, suc, ◌+◌, Bool, true, false, cond, List, [], ◌∷◌, ◌++◌, length, ◌<◌, take, drop, Option, Some, None, refl, sym, ◌∙◌, ap, subst, rules, arith}
 use Rattle.std.specs.List.{AllByRecursion, slice_get}
 use Rattle.std.specs.Option.{option_map, is_some}
 use Rattle.std.proofs.Math.ListN.{get_or}

@@ -1,12 +1,12 @@
 -- Loops that read as many pieces as there are.
-use Rattle.std.proofs.Common.{◌≡◌, ◌⊎◌, ℕ, zero, suc, ◌+◌, ◌<◌, ◌≤◌, Bool, true, false, cond, List, [], ◌∷◌, ◌++◌, length, Result, Ok, Err, sym, ◌∙◌, ap, subst, refl, inl, inr, arith, append_assoc, append-nil}
+use Rattle.std.proofs.Common.{◌≡◌, ℕ, zero, suc, ◌<◌, ◌≤◌, Bool, true, false, List, [], ◌∷◌, ◌++◌, length, Ok, Err, sym, ◌∙◌, ap, subst, refl, arith, append_assoc, append-nil}
 use Rattle.jimple_text.specs.declared.lexeme.Lexeme.{Lexeme}
 use Rattle.jimple_text.specs.declared.cursor.ParseStop.{ParseStop}
 use Rattle.jimple_text.specs.declared.cursor.ParseStop.TheVariants as stops
-use Rattle.jimple_text.specs.Gives.{Fails, place}
+use Rattle.jimple_text.specs.Gives.{Fails}
 use Rattle.jimple_text.specs.Grammar.{Look, Grammar, plain, both, ends, times}
 use Rattle.jimple_text.specs.Reading.{sees_one, Read, ◌>>=◌, may_be_empty, repeat, reading}
-use Rattle.jimple_text.proofs.Shrink.{bind_ok, Shorter, shrinks}
+use Rattle.jimple_text.proofs.Shrink.{Shorter, shrinks}
 
 abbrev Many : {A B : Type 0} → ℕ → Look → Grammar A → Grammar B → List Lexeme → Read (List A × B)
 Many n look a b ts = repeat {S = Unit {0}} n look (λ s. reading a) (λ s x. s) (reading b) tt ts

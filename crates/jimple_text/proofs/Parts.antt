@@ -1,6 +1,6 @@
 -- Parts in a row, by their relations alone.
-use Rattle.std.proofs.Common.{◌≡◌, ◌⊎◌, ℕ, zero, suc, ◌+◌, ◌<◌, ◌≤◌, Bool, true, false, cond, List, [], ◌∷◌, ◌++◌, length, Result, Ok, Err, sym, ◌∙◌, ap, subst, refl, inl, inr, arith, append_assoc, append-nil}
-use Rattle.std.proofs.lemmas.List.{append_cancel_left, append_cancel_right}
+use Rattle.std.proofs.Common.{◌≡◌, ◌⊎◌, ℕ, suc, List, [], ◌∷◌, ◌++◌, Ok, Err, sym, ◌∙◌, ap, subst, refl, inl, inr, append_assoc, append-nil}
+use Rattle.std.proofs.lemmas.List.{append_cancel_right}
 use Rattle.jimple_text.specs.declared.lexeme.Lexeme.{Lexeme}
 use Rattle.jimple_text.specs.Grammar.{Then, ThenBegins}
 use Rattle.jimple_text.specs.Reading.{Read, ◌>>=◌}

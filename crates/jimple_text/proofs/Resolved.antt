@@ -1,5 +1,5 @@
 -- Bodies and classes, from their statements; and that a raw class is one class.
-use Rattle.std.proofs.Common.{◌≡◌, ℕ, ◌<◌, ◌≤◌, List, [], ◌∷◌, ◌++◌, length, Option, Some, None, Result, Ok, Err, refl, sym, ◌∙◌, ap, subst}
+use Rattle.std.proofs.Common.{◌≡◌, ℕ, ◌<◌, ◌≤◌, List, [], ◌∷◌, ◌++◌, length, Some, None, refl, sym, ◌∙◌, ap, subst}
 use Rattle.jimple_tree.specs.declared.tree.Local.{Local}
 use Rattle.jimple_tree.specs.declared.tree.Stmt.{Stmt}
 use Rattle.jimple_tree.specs.declared.tree.Stmt.TheVariants as stmts_are
@@ -11,7 +11,7 @@ use Rattle.jimple_text.specs.declared.raw.RawClass.{RawClass}
 use Rattle.jimple_text.specs.declared.stop.BuildStop.{BuildStop}
 use Rattle.jimple_text.specs.declared.stop.BuildStop.TheVariants as stops
 use Rattle.jimple_text.specs.Names.{text, locals, Distinct, Each, StmtIs, BodyIs, Resolves, class_with}
-use Rattle.jimple_text.specs.Resolving.{Finds, Refuses, find_all, find_stmt}
+use Rattle.jimple_text.specs.Resolving.{Refuses, find_all, find_stmt}
 use Rattle.jimple_text.proofs.Found.{stmts_found, stmts_none, stmts_one}
 
 pub refuses : {P Q : Type 0} (e : BuildStop) → (P → Q) → Refuses P e → Refuses Q e

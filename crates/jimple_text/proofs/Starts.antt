@@ -1,13 +1,13 @@
 -- The kinds with which a form begins, and what may follow it.
-use Rattle.std.proofs.Common.{◌≡◌, ◌⊎◌, ℕ, zero, suc, Bool, true, false, cond, List, [], ◌∷◌, ◌++◌, Result, Ok, Err, sym, ◌∙◌, ap, subst, refl, inl, inr, arith, append_assoc, append-nil}
+use Rattle.std.proofs.Common.{◌≡◌, ◌⊎◌, ℕ, suc, Bool, true, false, cond, List, [], ◌∷◌, ◌++◌, sym, ◌∙◌, subst, refl, inl, inr}
 use mathlib.Core.Bool.{◌&&◌, ◌||◌}
 use Rattle.std.specs.Prelude.{◌==◌}
 use Rattle.jimple_text.specs.declared.lexeme.Lexeme.{Lexeme}
 use Rattle.jimple_text.specs.declared.kind.Kind.{Kind}
-use Rattle.jimple_text.specs.Kind.{has, Kinds, among, number}
-use Rattle.jimple_text.specs.Grammar.{Grammar, nothing, token, refused, both, either, many, given, Then, ThenBegins, ManySpells, last, more, ManyBegins, piece, end, later, Spells, Begins, BeginsBy}
-use Rattle.jimple_text.specs.Reading.{sees, sees_one, may_be_empty, first}
-use Rattle.jimple_text.proofs.Parts.{cut, Laws, then_laws, Meets}
+use Rattle.jimple_text.specs.Kind.{has, Kinds, number}
+use Rattle.jimple_text.specs.Grammar.{Grammar, nothing, token, refused, both, either, many, given, ManySpells, last, more, ManyBegins, piece, end, later, Spells, BeginsBy}
+use Rattle.jimple_text.specs.Reading.{may_be_empty, first}
+use Rattle.jimple_text.proofs.Parts.{cut, Laws, then_laws}
 
 pub or_left : (a b : Bool) → a ≡ true → (a || b) ≡ true
 or_left true b e = refl

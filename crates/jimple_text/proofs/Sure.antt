@@ -1,16 +1,16 @@
 -- Where each choice shows by what stands in front, reading is exact.
-use Rattle.std.proofs.Common.{◌≡◌, ◌⊎◌, ℕ, zero, suc, ◌+◌, ◌<◌, ◌≤◌, Bool, true, false, cond, List, [], ◌∷◌, ◌++◌, length, Result, Ok, Err, sym, ◌∙◌, ap, subst, refl, inl, inr, arith, append_assoc, append-nil}
+use Rattle.std.proofs.Common.{◌≡◌, ◌⊎◌, ℕ, zero, suc, ◌<◌, ◌≤◌, Bool, true, false, cond, List, [], ◌∷◌, ◌++◌, length, Ok, Err, sym, ◌∙◌, ap, subst, refl, inl, inr, arith, append_assoc, append-nil}
 use Rattle.std.specs.Prelude.{◌==◌}
 use Rattle.std.proofs.lemmas.Bool.{eqb-true}
-use mathlib.Core.Bool.{◌&&◌, ◌||◌}
+use mathlib.Core.Bool.{◌||◌}
 use Rattle.jimple_text.specs.declared.lexeme.Lexeme.{Lexeme}
 use Rattle.jimple_text.specs.declared.kind.Kind.{Kind}
 use Rattle.jimple_text.specs.Kind.{has, Kinds, among, number}
 use Rattle.jimple_text.specs.Grammar.{Look, Grammar, nothing, token, refused, both, either, many, plain, given, Then, ThenBegins, ManySpells, last, more, ManyBegins, piece, end, later, Spells, Begins, BeginsBy}
 use Rattle.jimple_text.specs.Reading.{sees, sees_one, Read, ◌>>=◌, read_token, read_refused, may_be_empty, first, repeat, reading}
-use Rattle.jimple_text.proofs.Shrink.{bind_ok, ok_is, chosen, Shorter, shrinks}
-use Rattle.jimple_text.proofs.Parts.{cut, Laws, Off, On, Why, Good, Bad, Exact, Meets, Again, first_stops, second_reads}
-use Rattle.jimple_text.proofs.Starts.{nil_parts, and_parts, not_both, has_left, has_right, disjoint, next, Follow, laws, many_laws, many_empty, empty_when}
+use Rattle.jimple_text.proofs.Shrink.{Shorter, shrinks}
+use Rattle.jimple_text.proofs.Parts.{Laws, Off, On, Exact, Meets, Again, first_stops, second_reads}
+use Rattle.jimple_text.proofs.Starts.{and_parts, not_both, has_left, has_right, disjoint, next, Follow, laws, many_laws, many_empty, empty_when}
 
 -- pieces and an end, from the front
 abbrev pub PieceSpells : {S A B : Type 0} → (S → Grammar A) → (S → A → S) → Grammar B → S → List Lexeme → List A × B → Type 0

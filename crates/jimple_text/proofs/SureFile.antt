@@ -1,19 +1,17 @@
 -- The body and the file: declarations, and then statements.
-use Rattle.std.proofs.Common.{◌≡◌, ◌⊎◌, ℕ, zero, suc, Bool, true, false, cond, List, [], ◌∷◌, ◌++◌, refl, rules, sym, ◌∙◌, ap, subst, inl, inr, append_assoc}
-use mathlib.Core.Bool.{◌&&◌, ◌||◌}
+use Rattle.std.proofs.Common.{◌≡◌, ℕ, true, false, List, [], ◌∷◌, ◌++◌, refl, sym, ◌∙◌, ap, subst, inl, inr, append_assoc}
+use mathlib.Core.Bool.{◌&&◌}
 use Rattle.jimple_text.specs.declared.kind.Kind.{Kind}
-use Rattle.jimple_text.specs.declared.kind.Kind.TheVariants as kinds
 use Rattle.jimple_text.specs.declared.lexeme.Lexeme.{Lexeme}
 use Rattle.jimple_text.specs.declared.raw.RawDecl.{RawDecl}
-use Rattle.jimple_text.specs.declared.raw.RawBody.{RawBody}
 use Rattle.jimple_text.specs.declared.raw.RawStmt.{RawStmt}
 use Rattle.jimple_text.specs.Kind.{Kinds, has}
 use Rattle.jimple_text.specs.Words.{names, primitives, types}
-use Rattle.jimple_text.specs.Grammar.{Spells, BeginsBy, ManyBegins, piece}
+use Rattle.jimple_text.specs.Grammar.{Spells, BeginsBy}
 use Rattle.jimple_text.specs.Reading.{sees, sees_one, may_be_empty, first}
-use Rattle.jimple_text.specs.Forms.{assign, call, call_stmt, stmt, returned, stmts, several_names, before_decl, decl, bodied, body, method, file}
+use Rattle.jimple_text.specs.Forms.{stmts, before_decl, decl, body, method, file}
 use Rattle.jimple_text.proofs.Starts.{next, Follow, laws, empty_when, not_both, or_left, or_right, and_both, and_parts}
-use Rattle.jimple_text.proofs.Sure.{Sure, Tells, PieceBegins, PieceSpells, or_cases, off_when}
+use Rattle.jimple_text.proofs.Sure.{Sure, Tells, or_cases, off_when}
 use Rattle.jimple_text.proofs.SureForms.{sure_decl, sure_stmts}
 use Rattle.jimple_text.proofs.Decls.{Pieces, decl_first, decl_second, decl_one, decl_long, type_is, pieces_first, pieces_second, stmts_some, stmts_name, stmts_two, stmts_alone, opened, one_of}
 

@@ -1,12 +1,10 @@
 -- The forms' choices show by the tokens in front.
-use Rattle.std.proofs.Common.{◌≡◌, ℕ, zero, suc, Bool, true, false, List, [], ◌∷◌, ◌++◌, refl, rules, length}
+use Rattle.std.proofs.Common.{◌≡◌, ℕ, zero, suc, true, [], ◌∷◌, ◌++◌, refl, rules, length}
 use Rattle.jimple_text.specs.declared.kind.Kind.TheVariants as kinds
-use Rattle.jimple_text.specs.declared.lexeme.Lexeme.{Lexeme}
 use Rattle.jimple_text.specs.Kind.{Kinds}
-use Rattle.jimple_text.specs.Words.{names, types}
-use Rattle.jimple_text.specs.Grammar.{Grammar, plain, ends, ◌*>◌, times}
+use Rattle.jimple_text.specs.Grammar.{Grammar, ends, ◌*>◌, times}
 use Rattle.jimple_text.specs.Reading.{first}
-use Rattle.jimple_text.specs.Forms.{sign, name, ty, others, one_or_more, several_names, several_types, params, sig, imm, next_imm, args, call, rhs, assign, call_stmt, stmt, returned, stmts, decl}
+use Rattle.jimple_text.specs.Forms.{sign, name, ty, others, several_names, several_types, params, sig, imm, next_imm, args, call, rhs, assign, call_stmt, stmt, returned, stmts, decl}
 use Rattle.jimple_text.proofs.Starts.{disjoint, next}
 use Rattle.jimple_text.proofs.Sure.{Sure, plain_sure}
 

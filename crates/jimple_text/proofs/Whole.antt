@@ -1,15 +1,15 @@
 -- A whole list of tokens: its value, or the place where it stops.
-use Rattle.std.proofs.Common.{◌≡◌, ◌⊎◌, ℕ, suc, List, [], ◌∷◌, ◌++◌, Result, Ok, Err, Some, refl, sym, ◌∙◌, ap, subst, append-nil}
+use Rattle.std.proofs.Common.{◌≡◌, ℕ, suc, List, [], ◌∷◌, Ok, Err, Some, refl, sym, ◌∙◌, ap, subst, append-nil}
 use Rattle.jimple_text.specs.declared.lexeme.Lexeme.{Lexeme}
 use Rattle.jimple_text.specs.Grammar.{Grammar, Spells, Begins, BeginsBy}
 use Rattle.jimple_text.specs.Reading.{Read, reading}
 use Rattle.jimple_text.specs.declared.cursor.ParseStop.{ParseStop}
 use Rattle.jimple_text.specs.declared.cursor.ParseStop.TheVariants as stops
-use Rattle.jimple_text.specs.Gives.{Fails, place}
+use Rattle.jimple_text.specs.Gives.{Fails}
 use Rattle.jimple_text.specs.Stops.{StopsAt, Reaches, Refused, Told}
 use Rattle.jimple_text.proofs.Shrink.{ok_is}
 use Rattle.jimple_text.proofs.Starts.{laws}
-use Rattle.jimple_text.proofs.Parts.{Off, On, Exact, Good, Bad}
+use Rattle.jimple_text.proofs.Parts.{Off, On, Exact}
 use Rattle.jimple_text.proofs.Sure.{Sure, exact, again}
 
 exact_of : {A : Type 0} (g : Grammar A) → Sure g [] → (ts : List Lexeme) (r : Read A) → reading g ts ≡ r → Exact (Spells g) (λ k. BeginsBy k g) ts r

@@ -2,7 +2,6 @@
 use Rattle.std.specs.Prelude.{◌≡◌, ℕ, true, List, [], ◌∷◌}
 use Rattle.clean_base.specs.declared.fault.Stop.{Stop}
 use Rattle.clean_base.specs.declared.fault.Stop.TheVariants.{Fault, OutOfMemory}
-use Rattle.clean_base.specs.declared.fault.InputFault.{InputFault}
 use Rattle.clean_base.specs.declared.fault.InputFault.TheVariants.{NotYet}
 use Rattle.jimple_lex.specs.Lexed.{Lexed}
 use Rattle.jimple_lex.specs.declared.token.Token.{Token}

@@ -1,5 +1,5 @@
 -- The tokens of a text as the grammar sees them.
-use Rattle.std.specs.Prelude.{ℕ, List, [], ◌∷◌, map}
+use Rattle.std.specs.Prelude.{ℕ, List, map}
 use Rattle.jimple_lex.specs.declared.token.Token.{Token}
 use Rattle.jimple_text.specs.declared.lexeme.Lexeme.{Lexeme}
 use Rattle.jimple_text.specs.Kinds.{kind_of}

@@ -1,5 +1,5 @@
 -- What a raw class is as a class: the rules on names, by cases. `bytes` are those of the text.
-use Rattle.std.specs.Prelude.{◌≡◌, ℕ, ◌≤◌, ◌<◌, List, [], ◌∷◌, ◌++◌, length, map, Option, Some, None, false, codes}
+use Rattle.std.specs.Prelude.{◌≡◌, ℕ, ◌≤◌, ◌<◌, List, [], ◌∷◌, ◌++◌, length, map, Some, None, false, codes}
 use Rattle.std.specs.List.{AllByRecursion, flat_map, slice_get}
 use Rattle.clean_base.specs.declared.ids.LocalId.{LocalId}
 use Rattle.jimple_tree.specs.declared.tree.Class.{Class}

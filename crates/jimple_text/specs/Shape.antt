@@ -1,5 +1,5 @@
 -- Texts of the grammar built so far: which tokens, and what stands between them.
-use Rattle.std.specs.Prelude.{ℕ, ◌-◌, Bool, true, false, not, ◌&&◌, ◌||◌, ◌==◌, List, [], ◌∷◌, take, drop}
+use Rattle.std.specs.Prelude.{ℕ, ◌-◌, Bool, true, false, not, ◌&&◌, ◌==◌, List, [], ◌∷◌, take, drop}
 use Rattle.std.specs.List.{list_all, list_any}
 use Rattle.jimple_lex.specs.Bytes.{is_blank, is_digit, single_quote}
 use Rattle.jimple_lex.specs.declared.token.Token.{Token}

@@ -1,6 +1,5 @@
 -- Sets of kinds that the forms name.
-use Rattle.std.specs.Prelude.{List, [], ◌∷◌, ◌++◌}
-use Rattle.jimple_text.specs.declared.kind.Kind.{Kind}
+use Rattle.std.specs.Prelude.{[], ◌∷◌, ◌++◌}
 use Rattle.jimple_text.specs.declared.kind.Kind.TheVariants as kinds
 use Rattle.jimple_text.specs.Kind.{Kinds}
 

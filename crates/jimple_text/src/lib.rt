@@ -1,22 +1,24 @@
-// Reads the text of a class. Tokens and trees stand below; the programs that work on classes above.
+// Reads the text of a class of the grammar built so far (docs/FORMATS.md, "Grammar built so far"). Tokens and the tree
+// of a class stand below; the programs that work on classes above.
+//
+// A text goes through five modules: `kinds` and `shape` give each token its kind, `parser` makes a raw tree of tokens
+// over a `cursor`, `resolve` looks the names up and makes the class, and `read` joins them.
 #![tactic(auto)]
 
-pub mod cursor;
-pub mod kind;
-pub mod lexeme;
+mod cursor;
+mod kind;
 mod kinds;
+mod lexeme;
 mod names;
 mod parser;
-pub mod raw;
-mod resolve;
+mod raw;
 mod read;
+mod resolve;
 mod resolver;
 mod scope;
 mod shape;
 mod stop;
+#[cfg(test)]
+mod tests;
 
 pub use read::read_classes;
-pub use cursor::{Cursor, ParseStop};
-pub use kind::Kind;
-pub use lexeme::Lexeme;
-pub use raw::{RawBody, RawCall, RawClass, RawDecl, RawImm, RawMethod, RawRhs, RawSig, RawStmt};

@@ -1,6 +1,6 @@
-use Rattle.std.proofs.Common.{rules, arith, ◌≡◌, [], ◌∷◌, ℕ, length, false, refl}
-use Rattle.jimple_text.specs.Kinds.{kind_in, of_length, keywords, signs}
-use Rattle.jimple_text.proofs.ByLength.{at_length, no_keyword, no_sign, beside}
+use Rattle.std.proofs.Common.{rules, length}
+use Rattle.jimple_text.specs.Kinds.{keywords}
+use Rattle.jimple_text.proofs.ByLength.{at_length, no_keyword, beside}
 use Rattle.jimple_text.proofs.kinds.keyword.Goals as goal
 
 pub returns-in-2 : goal.returns-in-2

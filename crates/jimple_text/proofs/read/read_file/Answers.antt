@@ -1,4 +1,4 @@
-use Rattle.std.proofs.Common.{◌≡◌, sym, ◌∙◌}
+use Rattle.std.proofs.Common.{sym, ◌∙◌}
 use Rattle.std.proofs.lemmas.Result.{err_from_is_err_and}
 use Rattle.jimple_text.proofs.Classes.{file_read, file_behind, file_stopped}
 use Rattle.jimple_text.proofs.read.read_file.Goals as goal

@@ -1,4 +1,4 @@
-use Rattle.std.proofs.Common.{rules, arith, ◌≡◌, ◌≤◌, ◌<◌, List, length, ◌∙◌, sym, refl, ap}
+use Rattle.std.proofs.Common.{rules, arith, length, ◌∙◌, sym, ap}
 use Rattle.jimple_text.specs.Names.{locals}
 use Rattle.std.proofs.lemmas.Result.{err_from_is_err_and}
 use Rattle.jimple_text.proofs.Resolved.{body_refused, body_is}

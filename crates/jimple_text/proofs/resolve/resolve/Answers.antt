@@ -1,6 +1,4 @@
-use Rattle.std.proofs.Common.{rules, ◌≡◌, sym, ◌∙◌, subst, ap}
 use Rattle.std.proofs.lemmas.Result.{err_from_is_err_and}
-use Rattle.jimple_text.specs.Names.{text, BodyIs}
 use Rattle.jimple_text.proofs.Resolved.{refuses}
 use Rattle.jimple_text.proofs.resolve.resolve.Goals as goal
 

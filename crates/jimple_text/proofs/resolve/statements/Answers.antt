@@ -1,4 +1,3 @@
-use Rattle.std.proofs.Common.{◌≡◌, List}
 use Rattle.std.proofs.lemmas.Result.{err_from_is_err_and}
 use Rattle.jimple_text.proofs.Resolved.{stmts_refused, stmts_with}
 use Rattle.jimple_text.proofs.resolve.statements.Goals as goal

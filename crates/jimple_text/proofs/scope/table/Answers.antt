@@ -1,12 +1,11 @@
-use Rattle.std.proofs.Common.{rules, arith, ◌≡◌, ◌≤◌, ◌<◌, List, ℕ, length, nat_eq, Option, Some, None, ◌+◌, Bool, true, false, cond, [], ◌∷◌, ◌++◌, take, drop, sym, ◌∙◌, ap, subst}
-use Rattle.std.specs.Borrow.{Bor}
+use Rattle.std.proofs.Common.{rules, arith, ◌≡◌, ◌<◌, List, ℕ, length, nat_eq, Some, None, cond, take, sym, ◌∙◌, ap, subst}
 use Rattle.std.specs.Str.{bytes_eq}
 use Rattle.std.specs.Cmp.Lexicographic.{pointwise}
 use Rattle.std.specs.HashMap.{get}
 use Rattle.std.proofs.lemmas.List.{length-take-le}
 use Rattle.jimple_tree.specs.declared.tree.Local.{Local}
-use Rattle.jimple_text.specs.Names.{text, Distinct}
-use Rattle.jimple_text.specs.Resolving.{number_of, Refuses}
+use Rattle.jimple_text.specs.Names.{Distinct}
+use Rattle.jimple_text.specs.Resolving.{number_of}
 use Rattle.jimple_text.proofs.Locals.{step, distinct_push, double, one_more, none_of}
 use Rattle.jimple_text.proofs.scope.table.Goals as goal
 

@@ -1,4 +1,4 @@
-use Rattle.std.proofs.Common.{length, [], ◌∷◌}
+use Rattle.std.proofs.Common.{length}
 use Rattle.jimple_text.specs.Reading.{reading}
 use Rattle.jimple_text.specs.Forms.{decl, stmts, body, before_decl, bodied}
 use Rattle.jimple_text.proofs.Loops.{Onward}

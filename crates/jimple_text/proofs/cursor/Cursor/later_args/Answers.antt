@@ -1,4 +1,4 @@
-use Rattle.std.proofs.Common.{arith, ◌≡◌, ◌+◌, ◌-◌, suc, List, [], ◌∷◌, ◌++◌, refl, append_assoc}
+use Rattle.std.proofs.Common.{arith, ◌+◌, ◌-◌, [], ◌∷◌, ◌++◌, append_assoc}
 use Rattle.std.proofs.lemmas.Result.{err_from_is_err_and}
 use Rattle.jimple_text.specs.declared.raw.RawImm.{RawImm}
 use Rattle.jimple_text.specs.Reading.{reading}

@@ -1,4 +1,4 @@
-use Rattle.std.proofs.Common.{◌≡◌, refl, sym}
+use Rattle.std.proofs.Common.{refl, sym}
 use Rattle.std.proofs.lemmas.Result.{err_from_is_err_and}
 use Rattle.jimple_text.specs.Reading.{reading}
 use Rattle.jimple_text.specs.Forms.{assign, call, call_stmt, stmt, returned, stmts}

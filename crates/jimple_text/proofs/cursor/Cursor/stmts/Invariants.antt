@@ -1,4 +1,4 @@
-use Rattle.std.proofs.Common.{length, [], ◌∷◌}
+use Rattle.std.proofs.Common.{length}
 use Rattle.jimple_text.specs.Reading.{reading}
 use Rattle.jimple_text.specs.Forms.{stmt, returned, stmts, before_stmt}
 use Rattle.jimple_text.proofs.Loops.{Onward}

@@ -1,4 +1,4 @@
-use Rattle.std.proofs.Common.{rules, arith, ◌≡◌, List, [], ◌∷◌, ◌++◌, length, ◌+◌, ◌<◌, refl, sym, ◌∙◌, ap}
+use Rattle.std.proofs.Common.{[], ◌∷◌, ◌++◌, refl, sym}
 use Rattle.std.proofs.lemmas.Result.{err_from_is_err_and}
 use Rattle.jimple_text.specs.declared.lexeme.Lexeme.{Lexeme}
 use Rattle.jimple_text.specs.declared.kind.Kind.TheVariants as kinds

@@ -1,9 +1,9 @@
-use Rattle.std.proofs.Common.{◌≡◌, List, Ok, [], ◌∷◌, length, ◌+◌, ◌++◌, ◌≤◌}
+use Rattle.std.proofs.Common.{◌≡◌, List, Ok, [], ◌∷◌, length}
 use Rattle.jimple_text.specs.declared.lexeme.Lexeme.{Lexeme}
 use Rattle.jimple_text.specs.declared.kind.Kind.TheVariants as kinds
 use Rattle.jimple_text.specs.Reading.{reading}
 use Rattle.jimple_text.specs.Grammar.{ends, ◌*>◌}
-use Rattle.jimple_text.specs.Forms.{sign, ty, several_types, others}
+use Rattle.jimple_text.specs.Forms.{sign, ty, others}
 use Rattle.jimple_text.proofs.Loops.{Onward}
 use Rattle.jimple_text.proofs.cursor.Cursor.types.Given as goal
 
