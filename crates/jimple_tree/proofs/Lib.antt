@@ -1,1 +1,5 @@
 mod Exact
+mod Words
+mod Segments
+mod Numbers
+mod Lines

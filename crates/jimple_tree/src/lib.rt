@@ -1,9 +1,15 @@
 // Jimple classes as trees. `clean_base` stands below; the readers of texts and all that works on classes above.
 #![tactic(auto)]
 
+mod labels;
+mod names;
+mod operand;
+mod statement;
 pub mod tree;
+pub mod write;
 
 pub use tree::{
     BinOp, Body, Case, Catch, Class, Cond, Field, FieldSig, Given, Imm, Invoke, InvokeKind, JType,
     Local, Method, Place, Rhs, Sig, Stmt,
 };
+pub use write::write_class;
