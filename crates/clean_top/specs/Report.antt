@@ -1,5 +1,5 @@
 -- The report of a method's leaks (docs/FORMATS.md, "Report").
-use Rattle.std.specs.Prelude.{◌≡◌, ℕ, zero, suc, List, [], ◌∷◌, ◌++◌, codes, decimal, map, flat_map, slice_index_or, IsPermutation, IsSorted}
+use Rattle.std.specs.Prelude.{◌≡◌, Bool, nat_lt, length, ℕ, zero, suc, List, [], ◌∷◌, ◌++◌, codes, decimal, map, flat_map, slice_index_or, IsPermutation, IsSorted}
 use Rattle.std.specs.Ordering.{nat_cmp, ordering_then}
 use Rattle.std.specs.declared.cmp.Ordering.{Ordering}
 use Rattle.std.specs.Cmp.Lexicographic.{slice_cmp}
@@ -63,8 +63,8 @@ pub record Shows (locals : List Local) (leaks : List Leak) (lines : List Line) :
   pub each : IsPermutation (map (line_of locals) leaks) lines
   pub in_order : IsSorted line_order lines
 
--- the text is the report of a machine for the method of this signature and these locals
-pub record Reports {F : Type 0} (P : Machine F Leak) (s : Sig) (locals : List Local) (text : List ℕ) : Type 0 where
+-- the text is the report of a machine for the method of this signature and these locals, and has leaks or not
+pub record Reports {F : Type 0} (P : Machine F Leak) (s : Sig) (locals : List Local) (text : List ℕ) (leaky : Bool) : Type 0 where
   pub leaks : List Leak
   pub listed : Lists (IsLeak P) leaks
   pub lines : List Line
@@ -74,3 +74,4 @@ pub record Reports {F : Type 0} (P : Machine F Leak) (s : Sig) (locals : List Lo
   pub contexts : ℕ
   pub known : HasCount (IsContext P) contexts
   pub is : text ≡ report_text s lines edges contexts
+  pub leaky_is : leaky ≡ nat_lt 0 (length lines)

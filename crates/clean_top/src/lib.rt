@@ -1,9 +1,17 @@
 // The top calls: the whole program over words, files and sinks.
 #![tactic(auto)]
 
+mod complain;
+mod entry;
 mod flow;
 mod report;
+mod serve;
 mod solver;
+mod status;
 mod straight;
+mod text;
+mod views;
+mod words;
 
-pub use solver::{Answer, solve};
+pub use serve::clean_plain;
+pub use status::Status;

@@ -1,11 +1,12 @@
 // The report: a line for each leak, and the numbers of path edges and contexts.
 ghost use Rattle.std.specs.Prelude.{◌≡◌, ◌++◌, OnOk, IfOk, List, codes, decimal, flat_map, map};
-ghost use Rattle.clean_top.specs.Report.{brackets, type_text, types_text, front_text, method_text, stmt_text, local_name, line_of, line_text, count_text, report_text, Shows};
+ghost use Rattle.clean_top.specs.Report.{brackets, type_text, types_text, front_text, method_text, stmt_text, local_name, line_of, line_text, count_text, report_text, Shows, Reports};
+ghost use Rattle.ifds_model.specs.Runs.{IsEdge, IsContext, IsLeak, Lists, HasCount};
 ghost use Rattle.clean_top.specs.declared.report.Line.{Line};
 
 use crate::solver::Answer;
 use clean_base::{LocalId, Seq, StmtId};
-use ifds_model::Leak;
+use ifds_model::{Leak, Problem};
 use itoa::Buffer;
 use jimple_tree::{JType, Local, Sig};
 use std::alloc::{AllocError, Global};
@@ -164,21 +165,49 @@ fn write_count(out: &mut Vec<u8>, word: &[u8], n: u64) -> Result<(), AllocError>
     out.extend_from_slice(b"\n")
 }
 
-/// Whether there is a leak to report, and the report.
-pub fn make_report(
+/// The text of a report, and whether it has leaks.
+#[derive(Debug, Drop)]
+pub struct Report {
+    pub text: Vec<u8>,
+    pub leaky: bool,
+}
+
+// The text of a report with these lines.
+fn write_report(
     alloc: Global,
     sig: &Sig,
-    locals: &[Local],
-    answer: &Answer<Leak>,
+    lines: &[Line],
+    edges: u64,
+    contexts: u64,
 ) -> Result<Vec<u8>, AllocError>
-    ensures { IfOk result (λ text. (lines : List Line) × Shows locals.now answer.now.marks.items lines × (text.items ≡ report_text sig.now lines answer.now.edges answer.now.contexts)) }
+    ensures { IfOk result (λ text. text.items ≡ report_text sig.now lines.now edges contexts) }
 {
-    let lines = sorted_lines(alloc, locals, answer.marks.as_slice())?;
     let mut method = Vec::new(alloc);
     write_method(&mut method, sig)?;
     let mut out = Vec::new(alloc);
-    write_lines(&mut out, method.as_slice(), lines.as_slice())?;
-    write_count(&mut out, b"edges ", answer.edges)?;
-    write_count(&mut out, b"contexts ", answer.contexts)?;
+    write_lines(&mut out, method.as_slice(), lines)?;
+    write_count(&mut out, b"edges ", edges)?;
+    write_count(&mut out, b"contexts ", contexts)?;
     Ok(out)
+}
+
+/// The report of what a solver found in a method.
+pub fn make_report<P: Problem<Mark = Leak>>(
+    alloc: Global,
+    problem: &P,
+    sig: &Sig,
+    locals: &[Local],
+    answer: &Answer<Leak>,
+) -> Result<Report, AllocError>
+    requires marks { Lists (IsLeak (P.machine problem.now)) answer.now.marks.items }
+    requires edges { HasCount (IsEdge (P.machine problem.now)) answer.now.edges }
+    requires contexts { HasCount (IsContext (P.machine problem.now)) answer.now.contexts }
+    ensures { IfOk result (λ r. Reports (P.machine problem.now) sig.now locals.now r.text.items r.leaky) }
+{
+    let lines = sorted_lines(alloc, locals, answer.marks.as_slice())?;
+    let text = write_report(alloc, sig, lines.as_slice(), answer.edges, answer.contexts)?;
+    Ok(Report {
+        text,
+        leaky: lines.len() > 0,
+    })
 }

@@ -13,6 +13,7 @@ use ifds_model::{Context, Dir, Leak, Move, Node, Problem};
 use std::alloc::{AllocError, Global};
 
 /// The statements of the one method.
+#[derive(Drop)]
 pub struct Straight<'a> {
     alloc: Global,
     views: &'a [View],

@@ -1,0 +1,74 @@
+use Rattle.std.proofs.Common.{◌≡◌, ℕ, ◌≤◌, List, length, Option, IfSome, arith, refl, subst}
+use Rattle.clean_top.specs.Answer.{Run}
+use Rattle.clean_top.specs.Meaning.{class_room, list_room}
+use Rattle.clean_top.specs.Told.{told}
+use Rattle.clean_top.proofs.Served.{class_stops, list_stops, texts_stop, written}
+use Rattle.clean_top.proofs.serve.serve.Goals as goal
+
+pub returns-in-Err : goal.returns-in-Err
+returns-in-Err g c =
+    let run : Run = record {
+      holds = g.S.Shelf.holds c.args.shelf.now;
+      before = g.S.Shelf.faults c.args.shelf.now;
+      now = g.S.Shelf.faults c.read_all.new.shelf;
+      old = g.K.Sink.taken c.args.out.now;
+      new = g.K.Sink.taken c.args.out.now;
+      first = g.K.Sink.faults c.args.out.now;
+      last = g.K.Sink.faults c.args.out.now;
+    } in
+    let asked = told c.args.asked.now in
+    rw c.of_read.ensures (class_stops run asked c.in-Err.stop refl c.in-Err.ensures.cause)
+
+pub returns-in-Err-read_all : goal.returns-in-Err-read_all
+returns-in-Err-read_all g c =
+    let run : Run = record {
+      holds = g.S.Shelf.holds c.args.shelf.now;
+      before = g.S.Shelf.faults c.args.shelf.now;
+      now = g.S.Shelf.faults c.read_all-2.new.shelf;
+      old = g.K.Sink.taken c.args.out.now;
+      new = g.K.Sink.taken c.args.out.now;
+      first = g.K.Sink.faults c.args.out.now;
+      last = g.K.Sink.faults c.args.out.now;
+    } in
+    let asked = told c.args.asked.now in
+    let class_fits : length c.in-Ok.class.items ≤ class_room = omega (arith, c.in-Ok.ensures.within, c.in-Ok.class.ok.0) in
+    rw c.of_read-in-Err-read_all.ensures
+    (list_stops run asked c.in-Ok.class.items c.in-Ok.ensures.whole class_fits c.in-Err-read_all.stop _ _ (c.read_all.ensures.same asked.lists) (c.read_all.ensures.later asked.lists) refl c.in-Err-read_all.ensures.cause)
+
+pub returns-in-Err-Fault : goal.returns-in-Err-Fault
+returns-in-Err-Fault g c =
+    let run : Run = record {
+      holds = g.S.Shelf.holds c.args.shelf.now;
+      before = g.S.Shelf.faults c.args.shelf.now;
+      now = g.S.Shelf.faults c.read_all-2.new.shelf;
+      old = g.K.Sink.taken c.args.out.now;
+      new = g.K.Sink.taken c.args.out.now;
+      first = g.K.Sink.faults c.args.out.now;
+      last = g.K.Sink.faults c.args.out.now;
+    } in
+    let asked = told c.args.asked.now in
+    let class_fits : length c.in-Ok.class.items ≤ class_room = omega (arith, c.in-Ok.ensures.within, c.in-Ok.class.ok.0) in
+    let whole_list : IfSome (run.holds asked.lists) (λ b. c.in-Ok-read_all.list.items ≡ b) =
+    subst (λ (held : Option (List ℕ)). IfSome held (λ b. c.in-Ok-read_all.list.items ≡ b)) (c.read_all.ensures.same asked.lists) c.in-Ok-read_all.ensures.whole in
+    let list_fits : length c.in-Ok-read_all.list.items ≤ list_room = omega (arith, c.in-Ok-read_all.ensures.within, c.in-Ok-read_all.list.ok.0) in
+    let stopped = rw (c.in-Err-Fault.field-0-is, c.as_slice.ensures.value, c.as_slice-2.ensures.value) at c.in-Err-Fault.ensures.err in
+    texts_stop run asked c.in-Ok.class.items c.in-Ok.ensures.whole class_fits c.in-Ok-read_all.list.items whole_list list_fits c.in-Err-Fault.fault refl stopped
+
+pub returns-in-Ok-read_and_report : goal.returns-in-Ok-read_and_report
+returns-in-Ok-read_and_report g c =
+    let run : Run = record {
+      holds = g.S.Shelf.holds c.args.shelf.now;
+      before = g.S.Shelf.faults c.args.shelf.now;
+      now = g.S.Shelf.faults c.read_all-2.new.shelf;
+      old = g.K.Sink.taken c.args.out.now;
+      new = g.K.Sink.taken c.write_out.new.out;
+      first = g.K.Sink.faults c.args.out.now;
+      last = g.K.Sink.faults c.write_out.new.out;
+    } in
+    let asked = told c.args.asked.now in
+    let class_fits : length c.in-Ok.class.items ≤ class_room = omega (arith, c.in-Ok.ensures.within, c.in-Ok.class.ok.0) in
+    let whole_list : IfSome (run.holds asked.lists) (λ b. c.in-Ok-read_all.list.items ≡ b) =
+    subst (λ (held : Option (List ℕ)). IfSome held (λ b. c.in-Ok-read_all.list.items ≡ b)) (c.read_all.ensures.same asked.lists) c.in-Ok-read_all.ensures.whole in
+    let list_fits : length c.in-Ok-read_all.list.items ≤ list_room = omega (arith, c.in-Ok-read_all.ensures.within, c.in-Ok-read_all.list.ok.0) in
+    let reported = rw (c.as_slice.ensures.value, c.as_slice-2.ensures.value) at c.in-Ok-read_and_report.ensures.ok in
+    written run asked c.in-Ok.class.items c.in-Ok.ensures.whole class_fits c.in-Ok-read_all.list.items whole_list list_fits c.in-Ok-read_and_report.report.text.items c.in-Ok-read_and_report.report.leaky reported c.write_out.result c.write_out.ensures

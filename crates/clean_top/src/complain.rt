@@ -1,0 +1,164 @@
+// The line on the standard error that says why a call refused.
+ghost use Rattle.std.specs.Prelude.{◌≡◌, ◌-◌, ◌++◌, OnOk, IfOk, codes, decimal};
+ghost use Rattle.clean_top.specs.Answer.{Complains, OrMemory, Takes};
+ghost use Rattle.clean_top.specs.Status.{fault_text, file_word, place_text, line_text, error_text};
+
+use crate::status::Status;
+use arrayvec::ArrayString;
+use clean_base::{InputFault, Sink, Word, put_all};
+use itoa::Buffer;
+use std::alloc::{AllocError, Global};
+
+// The name of a file of the words, by its place in the order of reading.
+fn file_of(words: &[Word], file: u32) -> &str
+    ensures { result.now ≡ file_word words.now file }
+{
+    let place = if file == 0 { 5 } else { 4 };
+    match words.get(place) {
+        Some(word) => word.as_str(),
+        None => "",
+    }
+}
+
+// What is wrong with a file, and where.
+fn write_place(line: &mut Vec<u8>, name: &str, wrong: &[u8], at: u64) -> Result<(), AllocError>
+    ensures { OnOk result (line.new.items ≡ line.old.items ++ place_text name.now wrong.now at) }
+{
+    let mut buffer = Buffer::new();
+    line.extend_from_slice(name.as_bytes())?;
+    line.extend_from_slice(b": ")?;
+    line.extend_from_slice(wrong)?;
+    line.extend_from_slice(buffer.format(at).as_bytes())
+}
+
+fn write_fault(line: &mut Vec<u8>, words: &[Word], fault: &InputFault) -> Result<(), AllocError>
+    ensures { OnOk result (line.new.items ≡ line.old.items ++ fault_text words.now fault.now) }
+{
+    match fault {
+        InputFault::TooLong { file, at } => {
+            write_place(line, file_of(words, *file), b"longer than ", *at)?;
+            line.extend_from_slice(b" bytes")
+        }
+        InputFault::BadByte { file, at } => {
+            write_place(line, file_of(words, *file), b"byte not allowed at ", *at)
+        }
+        InputFault::OpenText { file, at } => {
+            write_place(line, file_of(words, *file), b"text not ended at ", *at)
+        }
+        InputFault::EntryMissing => line.extend_from_slice(b"entry method not found"),
+        InputFault::NotYet { file } => {
+            line.extend_from_slice(file_of(words, *file).as_bytes())?;
+            line.extend_from_slice(b": form not built yet")
+        }
+    }
+}
+
+// The line of a fault of the input.
+fn fault_line(alloc: Global, words: &[Word], fault: &InputFault) -> Result<Vec<u8>, AllocError>
+    ensures { IfOk result (λ line. line.items ≡ line_text (fault_text words.now fault.now)) }
+{
+    let mut line = Vec::from_slice(alloc, b"clean: ")?;
+    write_fault(&mut line, words, fault)?;
+    line.extend_from_slice(b"\n")?;
+    Ok(line)
+}
+
+// The line of a file that couldn't be read.
+fn read_line(alloc: Global, words: &[Word], file: u32) -> Result<Vec<u8>, AllocError>
+    ensures { IfOk result (λ line. line.items ≡ line_text (file_word words.now file ++ codes ": read fault")) }
+{
+    let mut line = Vec::from_slice(alloc, b"clean: ")?;
+    line.extend_from_slice(file_of(words, file).as_bytes())?;
+    line.extend_from_slice(b": read fault\n")?;
+    Ok(line)
+}
+
+// The line of a sink that failed. Making it takes no memory.
+fn write_fault_line(written: u64) -> ArrayString<128>
+    ensures { result.bytes ≡ line_text (codes "write fault after " ++ decimal written ++ codes " bytes") }
+{
+    let mut buffer = Buffer::new();
+    let mut line = ArrayString::<128>::new();
+    line.push_str("clean: write fault after ");
+    line.push_str(buffer.format(written));
+    line.push_str(" bytes\n");
+    line
+}
+
+// Writes a line; a failure is passed over.
+fn say<E: Sink>(err: &mut E, line: &[u8])
+    ensures { Takes (E.taken err.old) (E.taken err.new) (E.faults err.old) (E.faults err.new) line.now }
+{
+    let _ = put_all(err, line);
+}
+
+const USAGE: &[u8] =
+    b"clean: usage: clean check, main, graph, serial, replay, solve or big, with its options and files\n";
+
+const MEMORY: &[u8] = b"clean: out of memory\n";
+
+// The line of a limit that was passed. Making it takes no memory.
+fn limit_line(found: u64) -> ArrayString<128>
+    ensures { result.bytes ≡ line_text (codes "edge limit " ++ decimal (found - 1) ++ codes " passed, " ++ decimal found ++ codes " found") }
+{
+    let mut limit = Buffer::new();
+    let mut count = Buffer::new();
+    let mut line = ArrayString::<128>::new();
+    line.push_str("clean: edge limit ");
+    line.push_str(limit.format(found.saturating_sub(1)));
+    line.push_str(" passed, ");
+    line.push_str(count.format(found));
+    line.push_str(" found\n");
+    line
+}
+
+// Writes the line of a fault of the input.
+fn say_fault<E: Sink>(alloc: Global, words: &[Word], fault: InputFault, err: &mut E) -> Status
+    ensures status { OrMemory (Status.Input fault) result }
+    ensures line { Complains words.now (E.taken err.old) (E.taken err.new) (E.faults err.old) (E.faults err.new) result }
+{
+    match fault_line(alloc, words, &fault) {
+        Ok(line) => {
+            say(err, line.as_slice());
+            Status::Input(fault)
+        }
+        Err(_) => {
+            say(err, MEMORY);
+            Status::OutOfMemory
+        }
+    }
+}
+
+// Writes the line of a file that couldn't be read.
+fn say_read_fault<E: Sink>(alloc: Global, words: &[Word], file: u32, err: &mut E) -> Status
+    ensures status { OrMemory (Status.ReadFault file) result }
+    ensures line { Complains words.now (E.taken err.old) (E.taken err.new) (E.faults err.old) (E.faults err.new) result }
+{
+    match read_line(alloc, words, file) {
+        Ok(line) => {
+            say(err, line.as_slice());
+            Status::ReadFault { file }
+        }
+        Err(_) => {
+            say(err, MEMORY);
+            Status::OutOfMemory
+        }
+    }
+}
+
+/// Writes the line of a status, and answers the status; where there is no memory for the line, that is the answer.
+pub fn complain<E: Sink>(alloc: Global, words: &[Word], status: Status, err: &mut E) -> Status
+    ensures status { OrMemory status result }
+    ensures line { Complains words.now (E.taken err.old) (E.taken err.new) (E.faults err.old) (E.faults err.new) result }
+{
+    match status {
+        Status::Input(fault) => return say_fault(alloc, words, fault, err),
+        Status::ReadFault { file } => return say_read_fault(alloc, words, file, err),
+        Status::Usage => say(err, USAGE),
+        Status::OutOfMemory => say(err, MEMORY),
+        Status::EdgeLimit { found } => say(err, limit_line(found).as_str().as_bytes()),
+        Status::WriteFault { written } => say(err, write_fault_line(written).as_str().as_bytes()),
+        Status::Clean | Status::Leaks => {}
+    }
+    status
+}
