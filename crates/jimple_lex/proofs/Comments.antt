@@ -1,12 +1,12 @@
 -- Comments: where they end.
-use Rattle.std.proofs.Common.{◌≡◌, ◌⊎◌, inl, inr, ℕ, zero, suc, ◌+◌, ◌-◌, ◌<◌, ◌≤◌, Bool, true, false, ◌||◌, ◌&&◌, ◌==◌, not, List, [], ◌∷◌, ◌++◌, length, take, drop, slice_index, sym, ap, subst, refl, ◌∙◌, arith, append_assoc, append-nil, length-append, drop-cons, drop-drop, codes}
+use Rattle.std.proofs.Common.{◌≡◌, ℕ, suc, ◌+◌, ◌-◌, ◌<◌, ◌≤◌, Bool, true, false, ◌&&◌, ◌==◌, not, List, [], ◌∷◌, ◌++◌, length, drop, slice_index, sym, ap, subst, refl, ◌∙◌, arith, append_assoc, length-append, drop-drop, codes}
 use Rattle.std.specs.List.{AllByRecursion}
 use Rattle.jimple_lex.specs.Bytes.{line_feed}
 use Rattle.jimple_lex.specs.Forms.{IsComment, line, block, AtLineEnd}
 use Rattle.jimple_lex.specs.Ends.{Ends, EndsRun, part}
 use Rattle.jimple_lex.proofs.Parts.{NotNext, Pass, parts, part_cons, part_length, part_more, run_pass, run_next, ends_some, ends_none}
 use Rattle.jimple_lex.proofs.Segments.{front_byte}
-use Rattle.jimple_lex.proofs.Places.{within_by, front_is, part_one}
+use Rattle.jimple_lex.proofs.Places.{within_by, part_one}
 
 abbrev pub no_feed : ℕ → Bool
 no_feed c = not (c == line_feed)

@@ -1,5 +1,5 @@
 -- Keywords by their first letter.
-use Rattle.std.proofs.Common.{◌≡◌, ◌⊎◌, inl, inr, ℕ, zero, suc, ◌<◌, Bool, true, false, ◌||◌, ◌&&◌, ◌==◌, not, List, [], ◌∷◌, length, drop, slice_index, sym, ap, refl, ◌∙◌, arith, codes}
+use Rattle.std.proofs.Common.{◌≡◌, inl, inr, ℕ, suc, ◌<◌, Bool, true, false, ◌||◌, ◌&&◌, ◌==◌, List, [], ◌∷◌, length, drop, slice_index, sym, ap, refl, ◌∙◌, arith, codes}
 use Rattle.std.specs.List.{list_any, list_all, AllByRecursion}
 use Rattle.std.specs.Str.{bytes_eq}
 use Rattle.jimple_lex.specs.Forms.{is_keyword, keywords, is_one_of}

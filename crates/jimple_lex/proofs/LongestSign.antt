@@ -1,7 +1,7 @@
 -- The longest sign at a place.
-use Rattle.std.proofs.Common.{◌≡◌, ◌⊎◌, inl, inr, ℕ, zero, suc, ◌+◌, ◌-◌, ◌<◌, ◌≤◌, Bool, true, false, cond, ◌||◌, ◌&&◌, ◌==◌, not, List, [], ◌∷◌, ◌++◌, length, take, drop, slice_index, sym, ap, subst, refl, ◌∙◌, arith, append_assoc, append-nil, length-append, drop-cons}
-use Rattle.jimple_lex.specs.Forms.{is_sign, IsWord, IsNumber}
-use Rattle.jimple_lex.specs.Tokens.{Longest, Begins, IsSign, begins_comment}
+use Rattle.std.proofs.Common.{◌≡◌, ◌⊎◌, inl, inr, ℕ, suc, ◌+◌, ◌<◌, ◌≤◌, Bool, true, false, cond, ◌||◌, ◌==◌, List, [], ◌∷◌, ◌++◌, length, drop, slice_index, sym, ap, subst, refl, ◌∙◌, arith}
+use Rattle.jimple_lex.specs.Forms.{is_sign}
+use Rattle.jimple_lex.specs.Tokens.{Longest, IsSign, begins_comment}
 use Rattle.jimple_lex.specs.Ends.{Ends, part}
 use Rattle.jimple_lex.specs.Front.{front}
 use Rattle.jimple_lex.specs.Signs.{is_single, is_pair, is_triple, sign_length}

@@ -1,13 +1,12 @@
 -- Numbers: where they end.
-use Rattle.std.proofs.Common.{◌≡◌, ◌⊎◌, inl, inr, ℕ, zero, suc, ◌+◌, ◌-◌, ◌<◌, ◌≤◌, Bool, true, false, ◌||◌, ◌&&◌, ◌==◌, List, [], ◌∷◌, ◌++◌, length, take, drop, slice_index, sym, ap, subst, refl, ◌∙◌, arith, append_assoc, append-nil, length-append, drop-cons}
-use native.Mathlib.Decide.{dec_lt}
-use Rattle.jimple_lex.specs.Bytes.{is_digit, is_letter, goes_on, hash, minus}
-use Rattle.jimple_lex.specs.Forms.{IsNumber, unsigned, negative, named, named_negative, GoesOn, AreLetters}
+use Rattle.std.proofs.Common.{◌≡◌, ℕ, zero, suc, ◌+◌, ◌-◌, ◌<◌, ◌≤◌, true, false, List, [], ◌∷◌, ◌++◌, length, take, drop, slice_index, sym, ap, subst, refl, ◌∙◌, arith, drop-cons}
+use Rattle.jimple_lex.specs.Bytes.{is_digit, is_letter, goes_on}
+use Rattle.jimple_lex.specs.Forms.{IsNumber, unsigned, negative, named, named_negative, GoesOn}
 use Rattle.jimple_lex.specs.Tokens.{Longest}
 use Rattle.jimple_lex.specs.Ends.{Ends, EndsRun, part}
-use Rattle.jimple_lex.proofs.Parts.{NotNext, Pass, pass_behind, run_ends, parts, part_cons, part_more, run_pass, run_next, not_next, ends_some, ends_none}
+use Rattle.jimple_lex.proofs.Parts.{NotNext, Pass, pass_behind, run_ends, part_cons, run_pass, run_next, ends_some, ends_none}
 use Rattle.jimple_lex.proofs.Segments.{front_byte}
-use Rattle.jimple_lex.proofs.Places.{within_by, front_is, run_from}
+use Rattle.jimple_lex.proofs.Places.{within_by, run_from}
 
 -- the last byte of a list that begins with this byte
 abbrev pub last_of : ℕ → List ℕ → ℕ

@@ -1,9 +1,9 @@
 -- At most one piece stands at the front of a text.
-use Rattle.std.proofs.Common.{◌≡◌, ◌⊎◌, inl, inr, ℕ, zero, suc, ◌+◌, ◌-◌, ◌<◌, ◌≤◌, Bool, true, false, cond, not, ◌==◌, List, [], ◌∷◌, ◌++◌, length, take, drop, sym, ap, subst, refl, ◌∙◌, arith, append_assoc, append-nil, length-append, codes, Option, Some, None}
+use Rattle.std.proofs.Common.{◌≡◌, inl, inr, ℕ, ◌<◌, Bool, true, false, cond, not, List, [], ◌∷◌, ◌++◌, length, sym, ap, subst, refl, ◌∙◌, arith, append_assoc, append-nil, codes, Some, None}
 use Rattle.std.specs.List.{AllByRecursion}
-use Rattle.jimple_lex.specs.Bytes.{is_blank, is_literal, line_feed, double_quote}
+use Rattle.jimple_lex.specs.Bytes.{line_feed}
 use Rattle.jimple_lex.specs.Forms.{IsWord, segments, initializer, class_initializer, IsNumber, unsigned, negative, named, named_negative, IsString, IsInside, empty, literal, escaped, IsComment, line, block, AtLineEnd, is_sign, is_keyword}
-use Rattle.jimple_lex.specs.Tokens.{Longest, IsSign, IsToken}
+use Rattle.jimple_lex.specs.Tokens.{Longest, IsToken}
 use Rattle.jimple_lex.specs.Front.{front, FormOf, kind_of}
 use Rattle.jimple_lex.specs.declared.front.Front.{Front}
 use Rattle.jimple_lex.specs.declared.front.Front.TheVariants as fronts

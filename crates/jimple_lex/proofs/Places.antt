@@ -1,12 +1,11 @@
 -- Segments and words by their places in the text.
-use Rattle.std.proofs.Common.{◌≡◌, ◌⊎◌, inl, inr, ℕ, zero, suc, ◌+◌, ◌-◌, ◌<◌, ◌≤◌, Bool, true, false, ◌||◌, ◌==◌, List, [], ◌∷◌, ◌++◌, length, take, drop, slice_index, sym, ap, subst, refl, ◌∙◌, arith, append_assoc, append-nil, length-append, drop-cons, length-drop, take_all, codes}
-use native.Mathlib.Decide.{dec_lt}
-use Rattle.jimple_lex.specs.Bytes.{begins_plain, is_plain, is_quotable, single_quote, dot}
+use Rattle.std.proofs.Common.{◌≡◌, inl, inr, ℕ, zero, suc, ◌+◌, ◌-◌, ◌<◌, ◌≤◌, Bool, true, false, ◌||◌, ◌==◌, List, [], ◌∷◌, ◌++◌, length, take, drop, slice_index, sym, ap, subst, refl, ◌∙◌, arith, append_assoc, drop-cons, length-drop, take_all, codes}
+use Rattle.jimple_lex.specs.Bytes.{begins_plain, is_plain, is_quotable, single_quote}
 use Rattle.jimple_lex.specs.Forms.{IsSegment, IsJoined, IsWord, segments, initializer, class_initializer}
 use Rattle.jimple_lex.specs.Tokens.{Longest}
 use Rattle.jimple_lex.specs.Ends.{Ends, EndsLongest, EndsRun, part}
 use Rattle.jimple_lex.specs.Front.{IsInitializer}
-use Rattle.jimple_lex.proofs.Parts.{NotNext, Pass, parts, part_cons, part_more, run_pass, run_next, not_next, ends_some, ends_none, longest_some, longest_none}
+use Rattle.jimple_lex.proofs.Parts.{parts, part_cons, part_more, run_pass, run_next, not_next, ends_some, ends_none, longest_some, longest_none}
 use Rattle.jimple_lex.proofs.Segments.{plain_longest, quoted_longest, quote_open, front_byte, begins_segment, segment_head, joined_head, joined_first, word_longest}
 
 -- behind the end stands 0

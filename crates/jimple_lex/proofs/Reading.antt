@@ -1,12 +1,9 @@
 -- Reading a text from its front: what stands before a place, and what is left.
-use Rattle.std.proofs.Common.{◌≡◌, ◌⊎◌, inl, inr, ℕ, zero, suc, ◌+◌, ◌-◌, ◌<◌, ◌≤◌, Bool, true, false, List, [], ◌∷◌, ◌++◌, length, take, drop, slice_index, sym, ap, subst, refl, ◌∙◌, arith, append_assoc, append-nil, length-append, Option, Some, None}
+use Rattle.std.proofs.Common.{◌≡◌, ℕ, suc, ◌+◌, ◌<◌, ◌≤◌, true, List, [], ◌∷◌, ◌++◌, length, drop, slice_index, sym, ap, subst, refl, ◌∙◌, arith, append_assoc, append-nil, length-append, Some, None}
 use Rattle.std.proofs.lemmas.List.{drop_all}
-use Rattle.std.specs.List.{AllByRecursion}
 use Rattle.jimple_lex.specs.Bytes.{is_blank}
-use Rattle.jimple_lex.specs.Forms.{IsComment}
-use Rattle.jimple_lex.specs.Tokens.{IsToken}
-use Rattle.jimple_lex.specs.Lexed.{Lexed, ends, blank, comment, token, InOrder}
-use Rattle.jimple_lex.specs.Faults.{FaultKind, bad_byte, open_text, FirstFault, bad, unended, past_blank, past_comment, past_token, Stuck, opens, IsFault, IsLexical}
+use Rattle.jimple_lex.specs.Lexed.{Lexed, ends, blank, comment, token}
+use Rattle.jimple_lex.specs.Faults.{FaultKind, bad_byte, open_text, FirstFault, bad, unended, past_blank, past_comment, past_token, Stuck, IsLexical}
 use Rattle.jimple_lex.specs.Ends.{Ends, part}
 use Rattle.jimple_lex.specs.Front.{front, FormOf, kind_of, FaultAt}
 use Rattle.jimple_lex.specs.declared.front.Front.{Front}

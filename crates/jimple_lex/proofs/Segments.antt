@@ -1,11 +1,10 @@
 -- Segments and words: where they end.
-use Rattle.std.proofs.Common.{◌≡◌, ◌⊎◌, inl, inr, ℕ, zero, suc, ◌+◌, ◌-◌, ◌<◌, ◌≤◌, Bool, true, false, ◌||◌, ◌==◌, List, [], ◌∷◌, ◌++◌, length, take, drop, slice_index, sym, ap, subst, refl, ◌∙◌, arith, append_assoc, append-nil, length-append, codes}
+use Rattle.std.proofs.Common.{◌≡◌, ◌⊎◌, inl, inr, ℕ, zero, suc, ◌+◌, ◌-◌, ◌<◌, ◌≤◌, Bool, true, false, ◌||◌, ◌==◌, List, [], ◌∷◌, ◌++◌, length, drop, slice_index, sym, ap, subst, refl, ◌∙◌, arith, append_assoc, append-nil, length-append, codes}
 use Rattle.jimple_lex.specs.Bytes.{begins_plain, is_plain, is_quotable, single_quote, dot}
 use Rattle.jimple_lex.specs.Forms.{IsSegment, plain, quoted, IsJoined, last, joined, IsWord, segments, initializer, class_initializer}
 use Rattle.jimple_lex.specs.Tokens.{Longest}
-use Rattle.jimple_lex.specs.Ends.{Ends, EndsLongest, EndsRun, part}
-use Rattle.jimple_lex.specs.Front.{IsInitializer}
-use Rattle.jimple_lex.proofs.Parts.{NotNext, Pass, pass_behind, one_run, run_ends, fronts, longest_front, longest_of, parts, part_length, part_cons, part_more, run_pass, run_next, ends_some, ends_none}
+use Rattle.jimple_lex.specs.Ends.{EndsLongest, part}
+use Rattle.jimple_lex.proofs.Parts.{NotNext, Pass, pass_behind, one_run, run_ends, fronts, longest_front, longest_of, parts, part_length, part_cons, part_more}
 
 -- the front of a text that is left
 pub front_byte : (bytes : List ℕ) (at x : ℕ) (xs : List ℕ) → drop at bytes ≡ x ∷ xs → (slice_index bytes at ≡ x) × (drop (suc at) bytes ≡ xs) × (at < length bytes)

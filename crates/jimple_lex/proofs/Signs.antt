@@ -1,7 +1,7 @@
 -- Signs: the longest there.
-use Rattle.std.proofs.Common.{◌≡◌, ◌⊎◌, inl, inr, ℕ, zero, suc, ◌+◌, ◌-◌, ◌<◌, ◌≤◌, Bool, true, false, cond, ◌||◌, ◌&&◌, ◌==◌, not, List, [], ◌∷◌, ◌++◌, length, take, drop, slice_index, sym, ap, subst, refl, ◌∙◌, arith, append_assoc, append-nil, length-append, drop-cons, drop-drop, codes}
+use Rattle.std.proofs.Common.{◌≡◌, ℕ, Bool, true, false, ◌||◌, ◌&&◌, List, [], ◌∷◌, refl, arith}
 use Rattle.jimple_lex.specs.Forms.{is_sign, signs}
-use Rattle.jimple_lex.specs.Signs.{is_single, is_pair, is_triple, sign_length}
+use Rattle.jimple_lex.specs.Signs.{is_single, is_pair, is_triple}
 
 and_true : (b : Bool) → (b && true) ≡ b
 and_true true = refl

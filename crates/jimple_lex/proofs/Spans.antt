@@ -1,6 +1,6 @@
 -- Tokens stand in the text, and in order.
-use Rattle.std.proofs.Common.{◌≡◌, ℕ, zero, suc, ◌+◌, ◌<◌, ◌≤◌, List, [], ◌∷◌, ◌++◌, length, ap, subst, refl, arith, length-append, slice_index_or}
-use Rattle.std.specs.List.{All, AllByRecursion}
+use Rattle.std.proofs.Common.{◌≡◌, ℕ, zero, suc, ◌+◌, ◌<◌, ◌≤◌, List, [], ◌∷◌, length, ap, arith, length-append}
+use Rattle.std.specs.List.{All}
 use Rattle.jimple_lex.specs.Lexed.{Lexed, ends, blank, comment, token, InOrder}
 use Rattle.jimple_lex.specs.declared.token.Token.{Token}
 use Rattle.jimple_lex.proofs.Pieces.{token_form, form_some}

@@ -1,12 +1,12 @@
 -- Strings: where they end.
-use Rattle.std.proofs.Common.{◌≡◌, ◌⊎◌, inl, inr, ℕ, zero, suc, ◌+◌, ◌-◌, ◌<◌, ◌≤◌, Bool, true, false, ◌||◌, ◌&&◌, ◌==◌, not, List, [], ◌∷◌, ◌++◌, length, take, drop, slice_index, sym, ap, subst, refl, ◌∙◌, arith, append_assoc, append-nil, length-append, drop-cons}
+use Rattle.std.proofs.Common.{◌≡◌, ◌⊎◌, inl, inr, ℕ, suc, ◌+◌, ◌-◌, ◌<◌, ◌≤◌, true, false, List, [], ◌∷◌, ◌++◌, length, take, drop, slice_index, sym, ap, subst, ◌∙◌, arith, append_assoc}
 use Rattle.std.proofs.lemmas.List.{drop_all}
 use Rattle.jimple_lex.specs.Bytes.{is_literal, double_quote, backslash, line_feed}
 use Rattle.jimple_lex.specs.Forms.{IsInside, empty, literal, escaped, IsString}
 use Rattle.jimple_lex.specs.Ends.{Ends, part}
-use Rattle.jimple_lex.proofs.Parts.{parts, part_cons, part_more, ends_some, ends_none}
+use Rattle.jimple_lex.proofs.Parts.{part_cons, part_more, ends_some}
 use Rattle.jimple_lex.proofs.Segments.{front_byte}
-use Rattle.jimple_lex.proofs.Places.{within_by, front_is, part_one}
+use Rattle.jimple_lex.proofs.Places.{part_one}
 
 inside_with : (a b : List ℕ) → IsInside a → IsInside b → IsInside (a ++ b)
 inside_with a b empty k = k

@@ -1,4 +1,4 @@
-use Rattle.std.proofs.Common.{◌≡◌, ◌≤◌, ◌<◌, length, sym, ◌∙◌, ap, arith}
+use Rattle.std.proofs.Common.{◌≤◌, ◌<◌, length, sym, ◌∙◌, arith}
 use Rattle.jimple_lex.proofs.Comments.{no_comment, line_there, block_there, unended_there}
 use Rattle.jimple_lex.proofs.ends.comment_end.Goals as goal
 

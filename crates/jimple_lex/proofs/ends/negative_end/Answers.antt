@@ -1,4 +1,3 @@
-use Rattle.std.proofs.Common.{sym, ◌∙◌, refl, ap}
 use Rattle.jimple_lex.specs.Bytes.{is_digit}
 use Rattle.jimple_lex.proofs.Places.{tested}
 use Rattle.jimple_lex.proofs.Numbers.{negative_there, no_number, no_sign_number}

@@ -1,4 +1,4 @@
-use Rattle.std.proofs.Common.{sym, ◌∙◌, refl, ap}
+use Rattle.std.proofs.Common.{ap}
 use Rattle.jimple_lex.specs.Bytes.{is_letter}
 use Rattle.jimple_lex.proofs.Places.{tested}
 use Rattle.jimple_lex.proofs.Numbers.{named_negative_there, no_number, no_name_number}

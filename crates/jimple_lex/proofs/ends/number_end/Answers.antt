@@ -1,5 +1,4 @@
-use Rattle.std.proofs.Common.{sym, ◌∙◌, refl, ap}
-use Rattle.jimple_lex.specs.Bytes.{is_digit}
+use Rattle.std.proofs.Common.{sym, ◌∙◌}
 use Rattle.jimple_lex.proofs.Numbers.{unsigned_there, no_number, no_front_number}
 use Rattle.jimple_lex.proofs.ends.number_end.Goals as goal
 

@@ -1,5 +1,4 @@
-use Rattle.std.proofs.Common.{◌≡◌, ◌<◌, ◌+◌, suc, length, slice_index, List, ◌++◌, drop, sym, ◌∙◌, ap, subst, arith, ℕ}
-use Rattle.jimple_lex.specs.Forms.{IsString}
+use Rattle.std.proofs.Common.{◌≡◌, ◌<◌, ◌+◌, suc, length, slice_index, sym, subst, arith, ℕ}
 use Rattle.jimple_lex.proofs.Parts.{ends_none}
 use Rattle.jimple_lex.proofs.Strings.{begun, no_end, line_ends, slash_ends, quote_ends, literal_on, escape_on}
 use Rattle.jimple_lex.proofs.ends.text_end.Goals as goal

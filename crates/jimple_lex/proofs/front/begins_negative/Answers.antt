@@ -1,4 +1,4 @@
-use Rattle.std.proofs.Common.{sym, ◌∙◌, ap, suc, drop, slice_index}
+use Rattle.std.proofs.Common.{◌∙◌, ap, suc, drop, slice_index}
 use Rattle.jimple_lex.specs.Bytes.{is_digit}
 use Rattle.jimple_lex.proofs.Fronts.{negative_there, digit_behind}
 use Rattle.jimple_lex.proofs.front.begins_negative.Goals as goal

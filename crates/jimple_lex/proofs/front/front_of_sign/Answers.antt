@@ -1,4 +1,4 @@
-use Rattle.std.proofs.Common.{sym, ◌∙◌, ap, ◌==◌}
+use Rattle.std.proofs.Common.{sym, ◌∙◌, ap}
 use Rattle.jimple_lex.specs.Tokens.{begins_comment}
 use Rattle.jimple_lex.specs.Front.{begins_initializer}
 use Rattle.jimple_lex.proofs.Places.{front_is, tail_slice}

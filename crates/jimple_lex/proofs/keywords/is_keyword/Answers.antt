@@ -1,4 +1,4 @@
-use Rattle.std.proofs.Common.{◌∙◌, sym, ap, arith, List, [], ◌∷◌, codes, length, ◌<◌}
+use Rattle.std.proofs.Common.{◌∙◌, sym, ap, arith, [], ◌∷◌, codes}
 use Rattle.jimple_lex.proofs.FirstLetters.{with_first, not_empty, is_empty, no_empty, other_first, keyword_a, keyword_b, keyword_c, keyword_d, keyword_e, keyword_f, keyword_g, keyword_i, keyword_l, keyword_n, keyword_p, keyword_r, keyword_s, keyword_t, keyword_u, keyword_v, keyword_w}
 use Rattle.jimple_lex.specs.Forms.{is_keyword}
 use Rattle.jimple_lex.proofs.keywords.is_keyword.Goals as goal

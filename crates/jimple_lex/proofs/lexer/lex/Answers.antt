@@ -1,8 +1,7 @@
-use Rattle.std.proofs.Common.{◌≡◌, ◌<◌, sym, ap, ◌∙◌, drop, suc, slice_index, subst, ℕ, arith, length, Option, Some, None, ◌++◌, ◌∷◌, []}
-use Rattle.jimple_lex.specs.Ends.{Ends, part}
-use Rattle.jimple_lex.specs.Front.{front, FormOf, kind_of}
-use Rattle.jimple_lex.specs.Lexed.{Lexed, InOrder}
-use Rattle.jimple_lex.proofs.Reading.{Read, begun, finished, only_these, gap_on, token_on, faulted}
+use Rattle.std.proofs.Common.{◌<◌, sym, ◌∙◌, subst, arith, length}
+use Rattle.jimple_lex.specs.Ends.{Ends}
+use Rattle.jimple_lex.specs.Front.{FormOf}
+use Rattle.jimple_lex.proofs.Reading.{finished, only_these, gap_on, token_on, faulted}
 use Rattle.jimple_lex.proofs.Spans.{in_order, spans}
 use Rattle.jimple_lex.proofs.lexer.lex.Goals as goal
 

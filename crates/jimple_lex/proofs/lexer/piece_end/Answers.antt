@@ -1,8 +1,7 @@
-use Rattle.std.proofs.Common.{◌≡◌, ◌+◌, sym, ap, ◌∙◌, drop, suc, slice_index, subst, ℕ}
+use Rattle.std.proofs.Common.{◌+◌, sym, ap, ◌∙◌, drop, suc, slice_index, subst}
 use Rattle.jimple_lex.specs.Ends.{Ends}
 use Rattle.jimple_lex.specs.Front.{front, FormOf}
 use Rattle.jimple_lex.specs.declared.front.Front.{Front}
-use Rattle.jimple_lex.specs.declared.front.Front.TheVariants as fronts
 use Rattle.jimple_lex.proofs.Places.{front_is}
 use Rattle.jimple_lex.proofs.Fronts.{text_front, front_blank}
 use Rattle.jimple_lex.proofs.Reading.{blank_there}

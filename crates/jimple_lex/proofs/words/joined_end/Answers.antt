@@ -1,4 +1,4 @@
-use Rattle.std.proofs.Common.{◌≡◌, ◌<◌, suc, sym, ◌∙◌, refl, ap, subst, ◌==◌, ◌+◌, arith, slice_index}
+use Rattle.std.proofs.Common.{◌≡◌, ◌<◌, suc, sym, ◌∙◌, refl, ap, subst, ◌==◌, arith, slice_index}
 use Rattle.jimple_lex.specs.Bytes.{dot}
 use Rattle.jimple_lex.specs.Forms.{IsSegment}
 use Rattle.jimple_lex.specs.Ends.{EndsLongest}
