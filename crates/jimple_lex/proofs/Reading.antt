@@ -1,15 +1,17 @@
 -- Reading a text from its front: what stands before a place, and what is left.
-use Rattle.std.proofs.Common.{◌≡◌, ℕ, suc, ◌+◌, ◌<◌, ◌≤◌, true, List, [], ◌∷◌, ◌++◌, length, drop, slice_index, sym, ap, subst, refl, ◌∙◌, arith, append_assoc, append-nil, length-append, Some, None}
+use Rattle.std.proofs.Common.{◌≡◌, ℕ, suc, ◌+◌, ◌<◌, ◌≤◌, Bool, true, false, List, [], ◌∷◌, ◌++◌, length, drop, slice_index, sym, ap, subst, refl, ◌∙◌, arith, append_assoc, append-nil, length-append, Some, None}
 use Rattle.std.proofs.lemmas.List.{drop_all}
 use Rattle.jimple_lex.specs.Bytes.{is_blank}
+use Rattle.jimple_lex.specs.Forms.{is_keyword}
 use Rattle.jimple_lex.specs.Lexed.{Lexed, ends, blank, comment, token}
-use Rattle.jimple_lex.specs.Faults.{FaultKind, bad_byte, open_text, FirstFault, bad, unended, past_blank, past_comment, past_token, Stuck, IsLexical}
+use Rattle.jimple_lex.specs.Faults.{FaultKind, bad_byte, open_text, FirstFault, bad, unended, past_blank, past_comment, past_token, Stuck, opens, IsLexical}
 use Rattle.jimple_lex.specs.Ends.{Ends, part}
 use Rattle.jimple_lex.specs.Front.{front, FormOf, kind_of, FaultAt}
 use Rattle.jimple_lex.specs.declared.front.Front.{Front}
 use Rattle.jimple_lex.specs.declared.front.Front.TheVariants as fronts
 use Rattle.jimple_lex.specs.declared.token.Token.{Token}
 use Rattle.jimple_lex.specs.declared.token.TokenKind.{TokenKind}
+use Rattle.jimple_lex.specs.declared.token.TokenKind.TheVariants as kinds
 use Rattle.clean_base.specs.declared.fault.InputFault.{InputFault}
 use Rattle.clean_base.specs.declared.fault.InputFault.TheVariants.{BadByte, OpenText}
 use Rattle.jimple_lex.proofs.Parts.{parts, part_length, ends_some}
@@ -55,15 +57,50 @@ gap_fault fronts.Number text rest at kind place a n l = absurd (let bad : Some _
 gap_fault fronts.Text text rest at kind place a n l = absurd (let bad : Some _ ≡ None = n in cc)
 gap_fault fronts.Sign text rest at kind place a n l = absurd (let bad : Some _ ≡ None = n in cc)
 
+-- what stands at the front of a text with a fault
+abbrev IsHere : List ℕ → FaultKind → Type 0
+IsHere whole bad_byte = opens whole ≡ false
+IsHere whole open_text = opens whole ≡ true
+
+data FaultView (at : ℕ) (whole : List ℕ) (kind : FaultKind) (place : ℕ) : Type 0 where
+  here : Stuck whole → place ≡ at → IsHere whole kind → FaultView at whole kind place
+  past : (f : Front) (text rest : List ℕ) → whole ≡ text ++ rest → FormOf f text rest → FirstFault (at + length text) rest kind place → FaultView at whole kind place
+
+fault_view : {at : ℕ} {whole : List ℕ} {kind : FaultKind} {place : ℕ} → FirstFault at whole kind place → FaultView at whole kind place
+fault_view (bad s o) = here s refl o
+fault_view (unended s o) = here s refl o
+fault_view {at = at} {kind = kind} {place = place} (past_blank {c = c} {rest = rest} b p) =
+    past fronts.Blank (c ∷ []) rest refl (c, refl, b) (subst (λ (n : ℕ). FirstFault n rest kind place) (let one : suc at ≡ at + length (c ∷ []) = omega arith in one) p)
+fault_view {kind = kind} {place = place} (past_comment text rest e n c p) = past fronts.Comment text rest e c (subst (λ (k : ℕ). FirstFault k rest kind place) n p)
+fault_view {kind = kind} {place = place} (past_token k text rest e n t p) = let f = token_form k text rest t in past f.0 text rest e f.1 (subst (λ (m : ℕ). FirstFault m rest kind place) n p)
+
+stuck_none : (f : Front) (whole text rest : List ℕ) → whole ≡ text ++ rest → FormOf f text rest → Stuck whole → ⊥
+stuck_none fronts.Blank whole text rest e a s = let bad : false ≡ true = sym (s.no_blank a.0 rest (e ∙ ap (λ (t : List ℕ). t ++ rest) a.1)) ∙ a.2 in cc
+stuck_none fronts.Comment whole text rest e a s = s.no_comment text rest e a
+stuck_none fronts.Word whole text rest e a s = by (is_keyword text) refl where
+  by : (b : Bool) → is_keyword text ≡ b → ⊥
+  by true k = s.no_token kinds.Keyword text rest e (a, k)
+  by false k = s.no_token kinds.Word text rest e (a, k)
+stuck_none fronts.Number whole text rest e a s = s.no_token kinds.Number text rest e a
+stuck_none fronts.Text whole text rest e a s = s.no_token kinds.Text text rest e a
+stuck_none fronts.Sign whole text rest e a s = s.no_token kinds.Sign text rest e a
+
+one_kind : (whole : List ℕ) (j k : FaultKind) → IsHere whole j → IsHere whole k → j ≡ k
+one_kind whole bad_byte bad_byte a b = refl
+one_kind whole bad_byte open_text a b = absurd (let bad : false ≡ true = sym a ∙ b in cc)
+one_kind whole open_text bad_byte a b = absurd (let bad : false ≡ true = sym b ∙ a in cc)
+one_kind whole open_text open_text a b = refl
+
 -- so many bytes are read, and these are their tokens
 pub record Read (bytes : List ℕ) (at : ℕ) (done : List Token) : Type 0 where
   pub within : at ≤ length bytes
   pub sound : (ts : List Token) → Lexed at (drop at bytes) ts → Lexed 0 bytes (done ++ ts)
   pub whole : (ts : List Token) → Lexed 0 bytes ts → (us : List Token) × (ts ≡ done ++ us) × Lexed at (drop at bytes) us
   pub first : (kind : FaultKind) (place : ℕ) → FirstFault at (drop at bytes) kind place → FirstFault 0 bytes kind place
+  pub left : (kind : FaultKind) (place : ℕ) → FirstFault 0 bytes kind place → FirstFault at (drop at bytes) kind place
 
 pub begun : (bytes : List ℕ) → Read bytes 0 []
-begun bytes = record { within = omega arith; sound = λ ts l. l; whole = λ ts l. (ts, refl, l); first = λ kind place f. f }
+begun bytes = record { within = omega arith; sound = λ ts l. l; whole = λ ts l. (ts, refl, l); first = λ kind place f. f; left = λ kind place f. f }
 
 pub finished : (bytes : List ℕ) (at : ℕ) (done : List Token) → Read bytes at done → length bytes ≤ at → Lexed 0 bytes done
 finished bytes at done r end = subst (λ (ts : List Token). Lexed 0 bytes ts) (append-nil done) (r.sound [] (subst (λ (bs : List ℕ). Lexed at bs []) (sym (drop_all at bytes end)) ends))
@@ -74,6 +111,15 @@ nothing_left at us l = by_view (view l) where
   by_view (over e n) = n
   by_view (gap f text rest e a n m) = absurd (let some = form_some f text rest a in let size = ap length e in let sum = length-append text rest in omega (arith, some, size, sum))
   by_view (found f text rest k later e a n t m) = absurd (let some = form_some f text rest a in let size = ap length e in let sum = length-append text rest in omega (arith, some, size, sum))
+
+no_fault_left : (at : ℕ) (kind : FaultKind) (place : ℕ) → FirstFault at [] kind place → ⊥
+no_fault_left at kind place p = by_view (fault_view p) where
+  by_view : FaultView at [] kind place → ⊥
+  by_view (here s e h) = s.goes_on refl
+  by_view (past f text rest e a q) = let some = form_some f text rest a in let size = ap length e in let sum = length-append text rest in omega (arith, some, size, sum)
+
+pub faultless : (bytes : List ℕ) (at : ℕ) (done : List Token) → Read bytes at done → length bytes ≤ at → (kind : FaultKind) (place : ℕ) → FirstFault 0 bytes kind place → ⊥
+faultless bytes at done r end kind place p = no_fault_left at kind place (subst (λ (bs : List ℕ). FirstFault at bs kind place) (drop_all at bytes end) (r.left kind place p))
 
 pub only_these : (bytes : List ℕ) (at : ℕ) (done : List Token) → Read bytes at done → length bytes ≤ at → (us : List Token) → Lexed 0 bytes us → us ≡ done
 only_these bytes at done r end us l =
@@ -99,6 +145,14 @@ module _ (bytes : List ℕ) (at to : ℕ) (done : List Token) (r : Read bytes at
   unfolding text
   same_piece g other rest e a = one_piece f g text (drop to bytes) other rest form a (sym split ∙ e)
 
+  left_on : (kind : FaultKind) (place : ℕ) → FirstFault 0 bytes kind place → FirstFault to (drop to bytes) kind place
+  unfolding text
+  left_on kind place p = off (fault_view (r.left kind place p)) where
+    off : FaultView at (drop at bytes) kind place → FirstFault to (drop to bytes) kind place
+    off (here s e h) = absurd (stuck_none f (drop at bytes) text (drop to bytes) split form s)
+    off (past g other rest e a q) = let s = same_piece g other rest e a in
+        subst (λ (bs : List ℕ). FirstFault to bs kind place) (sym s.2) (subst (λ (k : ℕ). FirstFault k rest kind place) (ap (λ (u : List ℕ). at + length u) (sym s.1) ∙ size) q)
+
   same_kind : (g : Front) (other : List ℕ) → f ≡ g → text ≡ other → kind_of f text ≡ kind_of g other
   same_kind g other e t = ap (λ (h : Front). kind_of h text) e ∙ ap (kind_of g) t
 
@@ -112,6 +166,7 @@ module _ (bytes : List ℕ) (at to : ℕ) (done : List Token) (r : Read bytes at
     sound = λ ts l. r.sound ts (subst (λ (bs : List ℕ). Lexed at bs ts) (sym split) (gap_before f text (drop to bytes) at ts form none (subst (λ (k : ℕ). Lexed k (drop to bytes) ts) (sym size) l)));
     whole = λ ts l. let w = r.whole ts l in (w.0, w.1, off w.0 (view w.2));
     first = λ kind place p. r.first kind place (subst (λ (bs : List ℕ). FirstFault at bs kind place) (sym split) (gap_fault f text (drop to bytes) at kind place form none (subst (λ (k : ℕ). FirstFault k (drop to bytes) kind place) (sym size) p)));
+    left = left_on;
   } where
     off : (us : List Token) → View at (drop at bytes) us → Lexed to (drop to bytes) us
     off us (over e n) = absurd (not_over e)
@@ -127,6 +182,7 @@ module _ (bytes : List ℕ) (at to : ℕ) (done : List Token) (r : Read bytes at
     whole = λ ts l. let w = r.whole ts l in let next = off w.0 (view w.2) in
         (next.0, w.1 ∙ ap (λ (us : List Token). done ++ us) next.1 ∙ sym (append_assoc done (token_at k at to ∷ []) next.0), next.2);
     first = λ kind place p. r.first kind place (past_token k text (drop to bytes) split (sym size) (form_token f k text (drop to bytes) form some) p);
+    left = left_on;
   } where
     off : (us : List Token) → View at (drop at bytes) us → (later : List Token) × (us ≡ token_at k at to ∷ later) × Lexed to (drop to bytes) later
     off us (over e n) = absurd (not_over e)
@@ -162,9 +218,16 @@ module _ (bytes : List ℕ) (at : ℕ) (done : List Token) (r : Read bytes at do
     by_view vs (gap g text rest split a n l) = no_form g text rest split a
     by_view vs (found g text rest k later split a n t l) = no_form g text rest split a
 
+  -- and the fault that stands there is the only one
+  no_other : (kind : FaultKind) → IsHere (drop at bytes) kind → (other : FaultKind) (place : ℕ) → FirstFault 0 bytes other place → (other ≡ kind) × (place ≡ at)
+  no_other kind is_here other place p = by_view (fault_view (r.left other place p)) where
+    by_view : FaultView at (drop at bytes) other place → (other ≡ kind) × (place ≡ at)
+    by_view (here s e h) = (one_kind (drop at bytes) other kind h is_here, e)
+    by_view (past g text rest split a q) = absurd (no_form g text rest split a)
+
   pub faulted : (file : ℕ) (fault : InputFault) → FaultAt file (drop at bytes) at fault → IsLexical file bytes fault
-  faulted file (BadByte named place) a = record { in_file = a.0; first = subst (FirstFault 0 bytes bad_byte) (sym a.1) (r.first bad_byte at (bad stuck a.2)); no_tokens = no_tokens }
-  faulted file (OpenText named place) a = record { in_file = a.0; first = subst (FirstFault 0 bytes open_text) (sym a.1) (r.first open_text at (unended stuck a.2)); no_tokens = no_tokens }
+  faulted file (BadByte named place) a = record { in_file = a.0; first = subst (FirstFault 0 bytes bad_byte) (sym a.1) (r.first bad_byte at (bad stuck a.2)); no_other = λ other place p. let o = no_other bad_byte a.2 other place p in (o.0, o.1 ∙ sym a.1); no_tokens = no_tokens }
+  faulted file (OpenText named place) a = record { in_file = a.0; first = subst (FirstFault 0 bytes open_text) (sym a.1) (r.first open_text at (unended stuck a.2)); no_other = λ other place p. let o = no_other open_text a.2 other place p in (o.0, o.1 ∙ sym a.1); no_tokens = no_tokens }
   faulted file _ a = absurd a
 
 pub blank_there : (bytes : List ℕ) (at : ℕ) → at < length bytes → is_blank (slice_index bytes at) ≡ true → Ends (FormOf fronts.Blank) bytes at (at + 1)

@@ -1,4 +1,4 @@
--- Where a run, or a piece of a form, ends.
+-- Where a run, or a piece of a form, ends. The helpers below `lex` cite this file, and no public clause does.
 use Rattle.std.specs.Prelude.{◌≡◌, ℕ, ◌-◌, ◌≤◌, ◌<◌, Bool, true, false, List, ◌++◌, length, take, drop}
 use Rattle.jimple_lex.specs.Tokens.{Longest}
 

@@ -35,10 +35,11 @@ pub data FirstFault : ℕ → List ℕ → FaultKind → ℕ → Type 0 where
   past_token : {at to place : ℕ} {whole : List ℕ} {kind : FaultKind} (found : TokenKind) (text rest : List ℕ) → whole ≡ text ++ rest → to ≡ at + length text → IsToken found text rest
       → FirstFault to rest kind place → FirstFault at whole kind place
 
--- a fault of this text of this file, which then has no list of tokens
+-- the first fault of this text of this file; it has no other, and no list of tokens
 pub record IsFault (file : ℕ) (bytes : List ℕ) (kind : FaultKind) (named at : ℕ) : Type 0 where
   pub in_file : named ≡ file
   pub first : FirstFault 0 bytes kind at
+  pub no_other : (other : FaultKind) (place : ℕ) → FirstFault 0 bytes other place → (other ≡ kind) × (place ≡ at)
   pub no_tokens : (us : List Token) → Lexed 0 bytes us → ⊥
 
 abbrev pub IsLexical : ℕ → List ℕ → InputFault → Type 0

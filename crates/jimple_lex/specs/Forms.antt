@@ -1,4 +1,4 @@
--- The forms of words, numbers, strings, signs and comments.
+-- The forms of words, numbers, strings, signs and comments (docs/FORMATS.md, "Tokens"). The kinds of bytes stand below, tokens above.
 use Rattle.std.specs.Prelude.{◌≡◌, ℕ, Bool, true, List, [], ◌∷◌, ◌++◌, codes}
 use Rattle.std.specs.List.{AllByRecursion, list_any}
 use Rattle.std.specs.Str.{bytes_eq}

@@ -1,4 +1,4 @@
--- What may stand at the front of a text, as its first bytes show.
+-- What may stand at the front of a text, as its first bytes show. The helpers below `lex` cite this file, and no public clause does.
 use Rattle.std.specs.Prelude.{◌≡◌, ◌⊎◌, ℕ, Bool, true, false, cond, ◌||◌, ◌&&◌, ◌==◌, List, [], ◌∷◌, codes, Option, Some, None}
 use Rattle.jimple_lex.specs.Bytes.{is_blank, begins_plain, is_digit, begins_with, single_quote, double_quote, hash, minus}
 use Rattle.jimple_lex.specs.Forms.{IsWord, IsNumber, IsString, IsComment, is_keyword}

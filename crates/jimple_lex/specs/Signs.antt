@@ -1,4 +1,4 @@
--- Signs by their length.
+-- Signs by their length. The helpers below `lex` cite this file, and no public clause does.
 use Rattle.std.specs.Prelude.{ℕ, Bool, cond, ◌&&◌, ◌||◌, ◌==◌, codes}
 use Rattle.std.specs.List.{list_any}
 

@@ -1,4 +1,4 @@
--- What a token of each kind is, and where it ends.
+-- What a token of each kind is, and where it ends (docs/FORMATS.md, "Tokens"). The forms stand below, the lists of tokens above.
 use Rattle.std.specs.Prelude.{◌≡◌, ℕ, Bool, true, false, ◌||◌, List, [], ◌++◌, codes}
 use Rattle.jimple_lex.specs.Bytes.{begins_with}
 use Rattle.jimple_lex.specs.Forms.{IsWord, IsNumber, IsString, is_sign, is_keyword}

@@ -1,8 +1,8 @@
 // Reads the tokens of a text from its front to its end.
-ghost use Rattle.std.specs.Prelude.{◌≡◌, ◌≤◌, ◌<◌, List, length, All, IfOk, IfErr, drop};
+ghost use Rattle.std.specs.Prelude.{◌≡◌, ◌≤◌, ◌<◌, ℕ, List, length, All, IfOk, IfErr, drop};
 ghost use Rattle.jimple_lex.specs.declared.token.Token.{Token};
 ghost use Rattle.jimple_lex.specs.Lexed.{Lexed, InOrder};
-ghost use Rattle.jimple_lex.specs.Faults.{Refused};
+ghost use Rattle.jimple_lex.specs.Faults.{FaultKind, FirstFault, Refused};
 ghost use Rattle.jimple_lex.specs.Front.{front, FormOf, kind_of, FaultAt};
 ghost use Rattle.jimple_lex.specs.Ends.{Ends};
 
@@ -67,6 +67,7 @@ fn fault_at(bytes: &[u8], at: usize, file: u32) -> InputFault
 pub fn lex(alloc: Global, bytes: &[u8], file: u32) -> Result<Vec<Token>, Stop>
     ensures ok { IfOk result (λ ts. Lexed 0 bytes.now ts.items) }
     ensures only { IfOk result (λ ts. (us : List Token) → Lexed 0 bytes.now us → us ≡ ts.items) }
+    ensures faultless { IfOk result (λ ts. (kind : FaultKind) (place : ℕ) → FirstFault 0 bytes.now kind place → ⊥) }
     ensures spans { IfOk result (λ ts. All (λ t. (t.from < t.to) × (t.to ≤ length bytes.now)) ts.items) }
     ensures order { IfOk result (λ ts. InOrder 0 ts.items) }
     ensures err { IfErr result (Refused file bytes.now) }

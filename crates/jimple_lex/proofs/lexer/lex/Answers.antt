@@ -1,7 +1,7 @@
 use Rattle.std.proofs.Common.{◌<◌, sym, ◌∙◌, subst, arith, length}
 use Rattle.jimple_lex.specs.Ends.{Ends}
 use Rattle.jimple_lex.specs.Front.{FormOf}
-use Rattle.jimple_lex.proofs.Reading.{finished, only_these, gap_on, token_on, faulted}
+use Rattle.jimple_lex.proofs.Reading.{finished, only_these, faultless, gap_on, token_on, faulted}
 use Rattle.jimple_lex.proofs.Spans.{in_order, spans}
 use Rattle.jimple_lex.proofs.lexer.lex.Goals as goal
 
@@ -30,3 +30,6 @@ returns-clause-spans c = spans (length c.args.bytes.now) (omega arith) (finished
 
 pub returns-clause-order : goal.returns-clause-order
 returns-clause-order c = in_order (finished c.args.bytes.now c.pieces.at c.pieces.out.items c.pieces.invariant c.pieces-test.false)
+
+pub returns-clause-faultless : goal.returns-clause-faultless
+returns-clause-faultless c = faultless c.args.bytes.now c.pieces.at c.pieces.out.items c.pieces.invariant c.pieces-test.false
