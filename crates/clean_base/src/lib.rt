@@ -12,6 +12,8 @@ pub mod put;
 pub mod read;
 pub mod real;
 pub mod seq;
+#[cfg(test)]
+mod tests;
 
 pub use device::{Failed, Shelf, Sink};
 pub use fault::{InputFault, Stop};

@@ -1,4 +1,5 @@
-// The top calls: the whole program over words, files and sinks.
+// The top call: the whole program over words, files and sinks. The reader of texts (`jimple_text`), lists
+// (`source_sink`) and machines (`ifds_model`) stand below; `clean_cli` gives it the real files and streams.
 #![tactic(auto)]
 
 mod complain;
@@ -9,6 +10,8 @@ mod serve;
 mod solver;
 mod status;
 mod straight;
+#[cfg(test)]
+mod tests;
 mod text;
 mod views;
 mod words;

@@ -1,0 +1,289 @@
+// Worked command lines over files and sinks in memory: what is written, to which sink, and the code.
+use crate::clean_plain;
+use clean_base::{MemFile, MemShelf, MemSink, Name, Seq, Word};
+use std::alloc::{AllocError, Global};
+use std::process::Abort;
+use std::test::Fail;
+
+const LIST: &str = "<S: int src()> -> _SOURCE_\n<S: void snk(int)> -> _SINK_\n";
+
+// What a call came to.
+#[derive(Drop)]
+struct Served {
+    out: Vec<u8>,
+    err: Vec<u8>,
+    code: u8,
+}
+
+// What should come.
+#[derive(Clone, Copy)]
+struct Case<'a> {
+    body: &'a str,
+    list: &'a str,
+    entry: &'a str,
+    out: &'a str,
+    err: &'a str,
+    code: u8,
+}
+
+fn name_of(alloc: Global, text: &str) -> Result<Name, AllocError> {
+    Ok(Name::from_vec(Vec::from_slice(alloc, text.as_bytes())?))
+}
+
+fn words_of(alloc: Global, texts: &[&str]) -> Result<Vec<Word>, AllocError> {
+    let mut words = Vec::new(alloc);
+    for text in texts {
+        words.push(Word::new(String::from_str(alloc, text)?))?;
+    }
+    Ok(words)
+}
+
+// A class file `A.jimple` with one method `m` of this body.
+fn class_of(alloc: Global, body: &str) -> Result<String, AllocError> {
+    format!(in alloc;
+        "public class A extends java.lang.Object {{ public static void m() {{ {body} }} }}"
+    )
+}
+
+fn shelf_of(alloc: Global, class: &str, list: &[u8], fail: &[u64]) -> Result<MemShelf, AllocError> {
+    let mut files = Vec::new(alloc);
+    files.push(MemFile {
+        name: name_of(alloc, "A.jimple")?,
+        bytes: Seq::from_vec(Vec::from_slice(alloc, class.as_bytes())?),
+    })?;
+    files.push(MemFile {
+        name: name_of(alloc, "L")?,
+        bytes: Seq::from_vec(Vec::from_slice(alloc, list)?),
+    })?;
+    Ok(MemShelf::new(files, Vec::from_slice(alloc, fail)?))
+}
+
+// Serves the words over a shelf, with so much room on the output and on the error sink.
+fn serve(
+    alloc: Global,
+    words: &[&str],
+    mut shelf: MemShelf,
+    room: u64,
+    err_room: u64,
+) -> Result<Served, AllocError> {
+    let words = words_of(alloc, words)?;
+    let mut out = MemSink::new(alloc, room)?;
+    let mut err = MemSink::new(alloc, err_room)?;
+    let status = clean_plain(alloc, words.as_slice(), &mut shelf, &mut out, &mut err);
+    Ok(Served {
+        out: Vec::from_slice(alloc, out.bytes())?,
+        err: Vec::from_slice(alloc, err.bytes())?,
+        code: status.code(),
+    })
+}
+
+fn expect(rt: &impl Abort, served: &Served, out: &str, err: &str, code: u8) {
+    assert_eq!(rt; served.out.as_slice(), out.as_bytes());
+    assert_eq!(rt; served.err.as_slice(), err.as_bytes());
+    assert_eq!(rt; served.code, code);
+}
+
+fn expect_case(rt: &impl Abort, alloc: Global, case: &Case<'_>) -> Result<(), AllocError> {
+    let class = class_of(alloc, case.body)?;
+    let shelf = shelf_of(alloc, class.as_str(), case.list.as_bytes(), &[])?;
+    let words = ["serial", "--entry", case.entry, "--lists", "L", "A.jimple"];
+    let served = serve(alloc, &words, shelf, 4096, 4096)?;
+    expect(rt, &served, case.out, case.err, case.code);
+    Ok(())
+}
+
+#[test]
+fn smallest_leak(rt: HostRuntime) -> Result<(), Fail> {
+    let body =
+        "int i0; i0 = staticinvoke <S: int src()>(); staticinvoke <S: void snk(int)>(i0); return;";
+    expect_case(
+        &rt,
+        rt.alloc(),
+        &Case {
+            body,
+            list: LIST,
+            entry: "<A: void m()>",
+            out: "leak <A: void m()>#1 from <A: void m()>#0 at i0\nedges 5\ncontexts 1\n",
+            err: "",
+            code: 1,
+        },
+    )?;
+    Ok(())
+}
+
+#[test]
+fn straight_bodies(rt: HostRuntime) -> Result<(), Fail> {
+    // The body, the output and the code.
+    let cases = [
+        ("return;", "edges 1\ncontexts 1\n", 0),
+        (
+            "int i0; i0 = staticinvoke <S: int src()>(); i0 = 0; staticinvoke <S: void snk(int)>(i0); return;",
+            "edges 5\ncontexts 1\n",
+            0,
+        ),
+        (
+            "int i0, i1; i0 = staticinvoke <S: int src()>(); i1 = i0; staticinvoke <S: void snk(int)>(i1); return;",
+            "leak <A: void m()>#2 from <A: void m()>#0 at i1\nedges 9\ncontexts 1\n",
+            1,
+        ),
+        (
+            "int b, a; b = staticinvoke <S: int src()>(); b = b; a = staticinvoke <T: int f(int,int)>(b, 1); staticinvoke <S: void snk(int)>(b); staticinvoke <S: void snk(int)>(a); return;",
+            "leak <A: void m()>#3 from <A: void m()>#0 at b\nleak <A: void m()>#4 from <A: void m()>#0 at a\nedges 14\ncontexts 1\n",
+            1,
+        ),
+    ];
+    for (body, out, code) in cases {
+        let case = Case {
+            body,
+            list: LIST,
+            entry: "<A: void m()>",
+            out,
+            err: "",
+            code,
+        };
+        expect_case(&rt, rt.alloc(), &case)?;
+    }
+    Ok(())
+}
+
+#[test]
+fn refusals_in_their_order(rt: HostRuntime) -> Result<(), Fail> {
+    let bad_list = "<S: int src()> => _SOURCE_\n";
+    // The body, the list, the entry and the line.
+    let cases = [
+        (
+            "nop; return;",
+            LIST,
+            "<A: void m()>",
+            "clean: A.jimple: form not built yet\n",
+            3,
+        ),
+        (
+            "nop; return;",
+            bad_list,
+            "<A: void n()>",
+            "clean: A.jimple: form not built yet\n",
+            3,
+        ),
+        (
+            "return;",
+            bad_list,
+            "<A: void n()>",
+            "clean: L: form not built yet\n",
+            3,
+        ),
+        (
+            "return;",
+            LIST,
+            "<A: void n()>",
+            "clean: entry method not found\n",
+            3,
+        ),
+        (
+            "return;",
+            LIST,
+            "<A: void m( )>",
+            "clean: usage: clean check, main, graph, serial, replay, solve or big, with its options and files\n",
+            2,
+        ),
+    ];
+    for (body, list, entry, err, code) in cases {
+        let case = Case {
+            body,
+            list,
+            entry,
+            out: "",
+            err,
+            code,
+        };
+        expect_case(&rt, rt.alloc(), &case)?;
+    }
+    Ok(())
+}
+
+#[test]
+fn words_of_no_form(rt: HostRuntime) -> Result<(), Fail> {
+    let usage =
+        "clean: usage: clean check, main, graph, serial, replay, solve or big, with its options and files\n";
+    let entry = "<A: void m()>";
+    let shapes: [&[&str]; 5] = [
+        &["serial"],
+        &["solve", "--entry", entry, "--lists", "L", "A.jimple"],
+        &["serial", "--entry", entry, "--lists", "L", "-A.jimple"],
+        &["serial", "--entry", entry, "--lists", "", "A.jimple"],
+        &[
+            "serial", "--entry", entry, "--lists", "L", "A.jimple", "B.jimple",
+        ],
+    ];
+    for words in shapes {
+        let shelf = shelf_of(rt.alloc(), "", &[], &[])?;
+        let served = serve(rt.alloc(), words, shelf, 4096, 4096)?;
+        expect(&rt, &served, "", usage, 2);
+    }
+    Ok(())
+}
+
+#[test]
+fn failing_devices(rt: HostRuntime) -> Result<(), Fail> {
+    let body =
+        "int i0; i0 = staticinvoke <S: int src()>(); staticinvoke <S: void snk(int)>(i0); return;";
+    let class = class_of(rt.alloc(), body)?;
+    let words = [
+        "serial",
+        "--entry",
+        "<A: void m()>",
+        "--lists",
+        "L",
+        "A.jimple",
+    ];
+
+    // The third call is the first read of the list.
+    let shelf = shelf_of(rt.alloc(), class.as_str(), LIST.as_bytes(), &[3])?;
+    let served = serve(rt.alloc(), &words, shelf, 4096, 4096)?;
+    expect(&rt, &served, "", "clean: L: read fault\n", 4);
+
+    let shelf = shelf_of(rt.alloc(), class.as_str(), LIST.as_bytes(), &[])?;
+    let served = serve(rt.alloc(), &words, shelf, 10, 4096)?;
+    expect(
+        &rt,
+        &served,
+        "leak <A: v",
+        "clean: write fault after 10 bytes\n",
+        5,
+    );
+
+    // A failure of the error sink is passed over.
+    let shelf = shelf_of(rt.alloc(), class.as_str(), LIST.as_bytes(), &[1])?;
+    let served = serve(rt.alloc(), &words, shelf, 4096, 7)?;
+    expect(&rt, &served, "", "clean: ", 4);
+    Ok(())
+}
+
+#[test]
+fn a_list_past_its_room(rt: HostRuntime) -> Result<(), Fail> {
+    let class = class_of(rt.alloc(), "return;")?;
+    let list = long_list(rt.alloc(), 16_777_217)?;
+    let shelf = shelf_of(rt.alloc(), class.as_str(), list.as_slice(), &[])?;
+    let words = [
+        "serial",
+        "--entry",
+        "<A: void m()>",
+        "--lists",
+        "L",
+        "A.jimple",
+    ];
+    let served = serve(rt.alloc(), &words, shelf, 4096, 4096)?;
+    expect(
+        &rt,
+        &served,
+        "",
+        "clean: L: longer than 16777216 bytes\n",
+        3,
+    );
+    Ok(())
+}
+
+// A list of so many bytes.
+fn long_list(alloc: Global, n: usize) -> Result<Vec<u8>, AllocError> {
+    vec![in alloc; b'\n'; n]
+}
