@@ -5,6 +5,7 @@ use Rattle.std.specs.List.{flat_map}
 use Rattle.jimple_tree.specs.Names.{name_text}
 use Rattle.jimple_tree.specs.Labels.{label_number, label_text, label_line}
 use Rattle.jimple_tree.specs.Operands.{brackets, type_text, field_sig_text, local_text, imm_text, invoke_text}
+use Rattle.clean_base.specs.declared.ids.LocalId.{LocalId}
 use Rattle.jimple_tree.specs.declared.tree.BinOp.{BinOp}
 use Rattle.jimple_tree.specs.declared.tree.BinOp.TheVariants.{Add, Sub, Mul, Div, Rem, And, Or, Xor, Shl, Shr, Ushr, Cmp, Cmpg, Cmpl}
 use Rattle.jimple_tree.specs.declared.tree.Body.{Body}
@@ -12,6 +13,7 @@ use Rattle.jimple_tree.specs.declared.tree.Case.{Case}
 use Rattle.jimple_tree.specs.declared.tree.Catch.{Catch}
 use Rattle.jimple_tree.specs.declared.tree.Cond.{Cond}
 use Rattle.jimple_tree.specs.declared.tree.Cond.TheVariants.{Eq, Ne, Lt, Le, Gt, Ge}
+use Rattle.jimple_tree.specs.declared.tree.FieldSig.{FieldSig}
 use Rattle.jimple_tree.specs.declared.tree.Given.{Given}
 use Rattle.jimple_tree.specs.declared.tree.Given.TheVariants.{This, Param, Caught}
 use Rattle.jimple_tree.specs.declared.tree.Imm.{Imm}
@@ -28,11 +30,21 @@ given_text (This type) = codes "@this: " ++ type_text type
 given_text (Param number type) = codes "@parameter" ++ decimal number ++ codes ": " ++ type_text type
 given_text Caught = codes "@caughtexception"
 
+abbrev pub field_text : Body → LocalId → FieldSig → List ℕ
+field_text b base sig = local_text b base ++ codes "." ++ field_sig_text sig
+
+-- a length in brackets
+abbrev pub length_text : Body → Imm → List ℕ
+length_text b len = codes "[" ++ imm_text b len ++ codes "]"
+
+abbrev pub element_text : Body → LocalId → Imm → List ℕ
+element_text b base index = local_text b base ++ length_text b index
+
 abbrev pub place_text : Body → Place → List ℕ
 place_text b (place.Local x) = local_text b x
-place_text b (place.Field base sig) = local_text b base ++ codes "." ++ field_sig_text sig
+place_text b (place.Field base sig) = field_text b base sig
 place_text b (place.Static sig) = field_sig_text sig
-place_text b (place.Element base index) = local_text b base ++ codes "[" ++ imm_text b index ++ codes "]"
+place_text b (place.Element base index) = element_text b base index
 
 abbrev pub cond_text : Cond → List ℕ
 cond_text Eq = codes " == "
@@ -58,15 +70,12 @@ op_text Cmp = codes " cmp "
 op_text Cmpg = codes " cmpg "
 op_text Cmpl = codes " cmpl "
 
-abbrev pub length_text : Body → Imm → List ℕ
-length_text b len = codes "[" ++ imm_text b len ++ codes "]"
-
 abbrev pub rhs_text : Body → Rhs → List ℕ
 rhs_text b (rhs.Use value) = imm_text b value
 rhs_text b (rhs.Cast type value) = codes "(" ++ type_text type ++ codes ") " ++ imm_text b value
-rhs_text b (rhs.Load base sig) = local_text b base ++ codes "." ++ field_sig_text sig
+rhs_text b (rhs.Load base sig) = field_text b base sig
 rhs_text b (rhs.StaticLoad sig) = field_sig_text sig
-rhs_text b (rhs.Element base index) = local_text b base ++ codes "[" ++ imm_text b index ++ codes "]"
+rhs_text b (rhs.Element base index) = element_text b base index
 rhs_text b (rhs.New class) = codes "new " ++ name_text class
 rhs_text b (rhs.NewArray type len) = codes "newarray (" ++ type_text type ++ codes ")" ++ length_text b len
 rhs_text b (rhs.NewMulti type lens bare) =

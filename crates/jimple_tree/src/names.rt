@@ -29,99 +29,95 @@ fn is_among<const N: usize>(segment: &[u8], words: &[[u8; N]]) -> bool
     false
 }
 
+// The keywords and the further modifiers, by their length.
+const RESERVED_2: [[u8; 2]; 2] = [*b"if", *b"to"];
+
+const RESERVED_3: [[u8; 3]; 6] = [*b"int", *b"cmp", *b"neg", *b"new", *b"nop", *b"ret"];
+
+const RESERVED_4: [[u8; 4]; 12] = [
+    *b"enum", *b"void", *b"byte", *b"char", *b"long", *b"case", *b"cmpg", *b"cmpl", *b"from",
+    *b"goto", *b"null", *b"with",
+];
+
+const RESERVED_5: [[u8; 5]; 6] = [
+    *b"final", *b"class", *b"short", *b"float", *b"catch", *b"throw",
+];
+
+const RESERVED_6: [[u8; 6]; 7] = [
+    *b"native", *b"public", *b"static", *b"double", *b"return", *b"throws", *b"bridge",
+];
+
+const RESERVED_7: [[u8; 7]; 6] = [
+    *b"private",
+    *b"boolean",
+    *b"unknown",
+    *b"extends",
+    *b"default",
+    *b"varargs",
+];
+
+const RESERVED_8: [[u8; 8]; 5] = [
+    *b"abstract",
+    *b"volatile",
+    *b"strictfp",
+    *b"lengthof",
+    *b"newarray",
+];
+
+const RESERVED_9: [[u8; 9]; 5] = [
+    *b"protected",
+    *b"transient",
+    *b"interface",
+    *b"null_type",
+    *b"synthetic",
+];
+
+const RESERVED_10: [[u8; 10]; 4] = [
+    *b"annotation",
+    *b"implements",
+    *b"breakpoint",
+    *b"instanceof",
+];
+
+const RESERVED_11: [[u8; 11]; 3] = [*b"exitmonitor", *b"tableswitch", *b"constructor"];
+
+const RESERVED_12: [[u8; 12]; 4] = [
+    *b"synchronized",
+    *b"entermonitor",
+    *b"lookupswitch",
+    *b"staticinvoke",
+];
+
+const RESERVED_13: [[u8; 13]; 4] = [
+    *b"newmultiarray",
+    *b"specialinvoke",
+    *b"dynamicinvoke",
+    *b"virtualinvoke",
+];
+
+const RESERVED_15: [[u8; 15]; 1] = [*b"interfaceinvoke"];
+
+const RESERVED_21: [[u8; 21]; 1] = [*b"declared_synchronized"];
+
 /// Whether a segment is a keyword or one of the further modifiers.
 fn is_reserved(segment: &[u8]) -> bool
     ensures { result ≡ is_one_of reserved segment.now }
 {
     match segment.len() {
-        2 => is_among(segment, &[*b"if", *b"to"]),
-        3 => is_among(
-            segment,
-            &[*b"int", *b"cmp", *b"neg", *b"new", *b"nop", *b"ret"],
-        ),
-        4 => is_among(
-            segment,
-            &[
-                *b"enum", *b"void", *b"byte", *b"char", *b"long", *b"case", *b"cmpg", *b"cmpl",
-                *b"from", *b"goto", *b"null", *b"with",
-            ],
-        ),
-        5 => is_among(
-            segment,
-            &[
-                *b"final", *b"class", *b"short", *b"float", *b"catch", *b"throw",
-            ],
-        ),
-        6 => is_among(
-            segment,
-            &[
-                *b"native", *b"public", *b"static", *b"double", *b"return", *b"throws", *b"bridge",
-            ],
-        ),
-        7 => is_among(
-            segment,
-            &[
-                *b"private",
-                *b"boolean",
-                *b"unknown",
-                *b"extends",
-                *b"default",
-                *b"varargs",
-            ],
-        ),
-        8 => is_among(
-            segment,
-            &[
-                *b"abstract",
-                *b"volatile",
-                *b"strictfp",
-                *b"lengthof",
-                *b"newarray",
-            ],
-        ),
-        9 => is_among(
-            segment,
-            &[
-                *b"protected",
-                *b"transient",
-                *b"interface",
-                *b"null_type",
-                *b"synthetic",
-            ],
-        ),
-        10 => is_among(
-            segment,
-            &[
-                *b"annotation",
-                *b"implements",
-                *b"breakpoint",
-                *b"instanceof",
-            ],
-        ),
-        11 => is_among(
-            segment,
-            &[*b"exitmonitor", *b"tableswitch", *b"constructor"],
-        ),
-        12 => is_among(
-            segment,
-            &[
-                *b"synchronized",
-                *b"entermonitor",
-                *b"lookupswitch",
-                *b"staticinvoke",
-            ],
-        ),
-        13 => is_among(
-            segment,
-            &[
-                *b"newmultiarray",
-                *b"specialinvoke",
-                *b"dynamicinvoke",
-                *b"virtualinvoke",
-            ],
-        ),
-        15 => is_among(segment, &[*b"interfaceinvoke"]),
-        21 => is_among(segment, &[*b"declared_synchronized"]),
+        2 => is_among(segment, &RESERVED_2),
+        3 => is_among(segment, &RESERVED_3),
+        4 => is_among(segment, &RESERVED_4),
+        5 => is_among(segment, &RESERVED_5),
+        6 => is_among(segment, &RESERVED_6),
+        7 => is_among(segment, &RESERVED_7),
+        8 => is_among(segment, &RESERVED_8),
+        9 => is_among(segment, &RESERVED_9),
+        10 => is_among(segment, &RESERVED_10),
+        11 => is_among(segment, &RESERVED_11),
+        12 => is_among(segment, &RESERVED_12),
+        13 => is_among(segment, &RESERVED_13),
+        15 => is_among(segment, &RESERVED_15),
+        21 => is_among(segment, &RESERVED_21),
         _ => false,
     }
 }

@@ -3,9 +3,11 @@
 ghost use Rattle.std.specs.Prelude.{◌≡◌, ◌++◌, ◌<◌, ◌≤◌, All, OnOk, codes, decimal, length};
 ghost use Rattle.std.specs.List.{flat_map};
 ghost use Rattle.jimple_tree.specs.Labels.{IsNumbered, label_number, label_text};
-ghost use Rattle.jimple_tree.specs.Operands.{imm_text, type_text};
+ghost use Rattle.jimple_tree.specs.Operands.{imm_text, local_text, type_text};
 ghost use Rattle.jimple_tree.specs.Statements.{
   case_head,
+  element_text,
+  field_text,
   case_line,
   cond_text,
   default_line,
@@ -18,14 +20,15 @@ ghost use Rattle.jimple_tree.specs.Statements.{
   stmt_text,
   switch_word,
 };
-ghost use Rattle.jimple_tree.specs.WellFormed.{GivenFits, ImmFits, PlaceFits, RhsFits, StmtFits, TargetFits};
+ghost use Rattle.jimple_tree.specs.WellFormed.{GivenFits, ImmFits, LocalFits, PlaceFits, RhsFits, StmtFits, TargetFits};
 
 use crate::labels::write_label;
 use crate::names::write_name;
 use crate::operand::{
     write_brackets, write_field_sig, write_imm, write_invoke, write_local, write_type,
 };
-use crate::tree::{BinOp, Body, Case, Cond, Given, Imm, JType, Place, Rhs, Stmt};
+use crate::tree::{BinOp, Body, Case, Cond, FieldSig, Given, Imm, JType, Place, Rhs, Stmt};
+use clean_base::LocalId;
 use itoa::Buffer;
 use std::alloc::AllocError;
 
@@ -54,22 +57,45 @@ fn write_given(out: &mut Vec<u8>, given: &Given) -> Result<(), AllocError>
     }
 }
 
+/// Writes a field of what a local holds.
+fn write_field(
+    out: &mut Vec<u8>,
+    body: &Body,
+    base: LocalId,
+    sig: &FieldSig,
+) -> Result<(), AllocError>
+    requires { LocalFits body.now base }
+    ensures { OnOk result (out.new.items ≡ out.old.items ++ field_text body.now base sig.now) }
+{
+    write_local(out, body, base)?;
+    out.extend_from_slice(b".")?;
+    write_field_sig(out, sig)
+}
+
+/// Writes an element of the array that a local holds.
+fn write_element(
+    out: &mut Vec<u8>,
+    body: &Body,
+    base: LocalId,
+    index: &Imm,
+) -> Result<(), AllocError>
+    requires base { LocalFits body.now base }
+    requires index { ImmFits body.now index.now }
+    ensures { OnOk result (out.new.items ≡ out.old.items ++ element_text body.now base index.now) }
+{
+    write_local(out, body, base)?;
+    write_length(out, body, index)
+}
+
 fn write_place(out: &mut Vec<u8>, body: &Body, place: &Place) -> Result<(), AllocError>
     requires { PlaceFits body.now place.now }
     ensures { OnOk result (out.new.items ≡ out.old.items ++ place_text body.now place.now) }
 {
     match place {
         Place::Local(local) => write_local(out, body, *local),
-        Place::Field { base, sig } => {
-            write_local(out, body, *base)?;
-            out.extend_from_slice(b".")?;
-            write_field_sig(out, sig)
-        }
+        Place::Field { base, sig } => write_field(out, body, *base, sig),
         Place::Static(sig) => write_field_sig(out, sig),
-        Place::Element { base, index } => {
-            write_local(out, body, *base)?;
-            write_length(out, body, index)
-        }
+        Place::Element { base, index } => write_element(out, body, *base, index),
     }
 }
 
@@ -156,16 +182,9 @@ fn write_rhs(out: &mut Vec<u8>, body: &Body, rhs: &Rhs) -> Result<(), AllocError
             write_typed(out, b"", ty)?;
             write_word(out, b" ", body, value)
         }
-        Rhs::Load { base, sig } => {
-            write_local(out, body, *base)?;
-            out.extend_from_slice(b".")?;
-            write_field_sig(out, sig)
-        }
+        Rhs::Load { base, sig } => write_field(out, body, *base, sig),
         Rhs::StaticLoad(sig) => write_field_sig(out, sig),
-        Rhs::Element { base, index } => {
-            write_local(out, body, *base)?;
-            write_length(out, body, index)
-        }
+        Rhs::Element { base, index } => write_element(out, body, *base, index),
         Rhs::New(class) => {
             out.extend_from_slice(b"new ")?;
             write_name(out, class.bytes())
@@ -317,6 +336,34 @@ fn write_word_stmt(out: &mut Vec<u8>, word: &[u8], body: &Body, imm: &Imm) -> Re
     out.extend_from_slice(b";")
 }
 
+fn write_identity(
+    out: &mut Vec<u8>,
+    body: &Body,
+    local: LocalId,
+    what: &Given,
+) -> Result<(), AllocError>
+    requires { LocalFits body.now local }
+    ensures { OnOk result (out.new.items
+        ≡ out.old.items ++ local_text body.now local ++ codes " := " ++ given_text what.now ++ codes ";") }
+{
+    write_local(out, body, local)?;
+    out.extend_from_slice(b" := ")?;
+    write_given(out, what)?;
+    out.extend_from_slice(b";")
+}
+
+fn write_assign(out: &mut Vec<u8>, body: &Body, place: &Place, rhs: &Rhs) -> Result<(), AllocError>
+    requires place { PlaceFits body.now place.now }
+    requires rhs { RhsFits body.now rhs.now }
+    ensures { OnOk result (out.new.items
+        ≡ out.old.items ++ place_text body.now place.now ++ codes " = " ++ rhs_text body.now rhs.now ++ codes ";") }
+{
+    write_place(out, body, place)?;
+    out.extend_from_slice(b" = ")?;
+    write_rhs(out, body, rhs)?;
+    out.extend_from_slice(b";")
+}
+
 /// Writes a statement without its indent and the end of its line.
 pub(crate) fn write_stmt(
     out: &mut Vec<u8>,
@@ -329,18 +376,8 @@ pub(crate) fn write_stmt(
     ensures { OnOk result (out.new.items ≡ out.old.items ++ stmt_text body.now stmt.now) }
 {
     match stmt {
-        Stmt::Identity { local, what } => {
-            write_local(out, body, *local)?;
-            out.extend_from_slice(b" := ")?;
-            write_given(out, what)?;
-            out.extend_from_slice(b";")
-        }
-        Stmt::Assign { place, rhs } => {
-            write_place(out, body, place)?;
-            out.extend_from_slice(b" = ")?;
-            write_rhs(out, body, rhs)?;
-            out.extend_from_slice(b";")
-        }
+        Stmt::Identity { local, what } => write_identity(out, body, *local, what),
+        Stmt::Assign { place, rhs } => write_assign(out, body, place, rhs),
         Stmt::Call(invoke) => {
             write_invoke(out, body, invoke)?;
             out.extend_from_slice(b";")
