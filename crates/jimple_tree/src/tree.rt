@@ -1,4 +1,4 @@
-// The tree of a class (docs/FORMATS.md, "Tree"). Places in a body are numbers of statements, counted from 0.
+// The tree of a class (docs/FORMATS.md, "Tree and canonical text"). Places in a body are numbers of statements, counted from 0.
 ghost use Rattle.std.specs.Prelude.{◌≡◌, ◌↔◌, IsTrue};
 
 use clean_base::{LocalId, Name, Seq};

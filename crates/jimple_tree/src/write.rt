@@ -1,4 +1,4 @@
-// The canonical text of a class: headings, members, and the lines of bodies.
+// The canonical text of a class (docs/FORMATS.md, "Tree and canonical text"): headings, members, and the lines of bodies.
 // Statements, operands and names stand below; the crate's callers above.
 ghost use Rattle.std.specs.Prelude.{◌≡◌, ◌++◌, ◌+◌, ◌≤◌, ◌<◌, All, OnOk, codes, length, if◌then◌else◌, nat_lt, []};
 ghost use Rattle.std.specs.List.{flat_map};
