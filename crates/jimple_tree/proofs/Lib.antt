@@ -3,3 +3,4 @@ mod Words
 mod Segments
 mod Numbers
 mod Lines
+mod Walks

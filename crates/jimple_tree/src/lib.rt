@@ -13,3 +13,6 @@ pub use tree::{
     Local, Method, Place, Rhs, Sig, Stmt,
 };
 pub use write::write_class;
+
+#[cfg(test)]
+mod tests;
