@@ -1,4 +1,4 @@
-use Rattle.std.proofs.Common.{arith, refl, ◌<◌, length}
+use Rattle.std.proofs.Common.{arith, refl}
 use Rattle.jimple_tree.specs.WellFormed.{TargetFits}
 use Rattle.jimple_tree.specs.declared.tree.Case.{Case}
 use Rattle.jimple_tree.proofs.Walks.{one_more, whole}

@@ -1,4 +1,4 @@
-use Rattle.std.proofs.Common.{arith, refl, ◌<◌, length}
+use Rattle.std.proofs.Common.{arith}
 use Rattle.jimple_tree.specs.WellFormed.{CatchFits}
 use Rattle.jimple_tree.proofs.Walks.{one_more, whole}
 use Rattle.jimple_tree.proofs.tests.fits.catches_fit.Goals as goal

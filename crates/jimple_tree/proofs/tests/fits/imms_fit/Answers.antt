@@ -1,4 +1,4 @@
-use Rattle.std.proofs.Common.{arith, refl, ◌<◌, length}
+use Rattle.std.proofs.Common.{arith, refl}
 use Rattle.jimple_tree.specs.WellFormed.{ImmFits}
 use Rattle.jimple_tree.proofs.Walks.{one_more, whole}
 use Rattle.jimple_tree.proofs.tests.fits.imms_fit.Goals as goal

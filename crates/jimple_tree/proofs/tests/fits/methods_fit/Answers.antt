@@ -1,4 +1,4 @@
-use Rattle.std.proofs.Common.{arith, refl, ◌<◌, length}
+use Rattle.std.proofs.Common.{arith, refl}
 use Rattle.jimple_tree.specs.WellFormed.{MethodFits}
 use Rattle.jimple_tree.proofs.Walks.{one_more, whole}
 use Rattle.jimple_tree.proofs.tests.fits.methods_fit.Goals as goal

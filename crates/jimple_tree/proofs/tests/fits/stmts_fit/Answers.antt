@@ -1,4 +1,4 @@
-use Rattle.std.proofs.Common.{arith, refl, ◌<◌, length}
+use Rattle.std.proofs.Common.{arith}
 use Rattle.jimple_tree.specs.WellFormed.{StmtFits}
 use Rattle.jimple_tree.proofs.Walks.{one_more, whole}
 use Rattle.jimple_tree.proofs.tests.fits.stmts_fit.Goals as goal
