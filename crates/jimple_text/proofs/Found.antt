@@ -59,10 +59,10 @@ each_all f R h (x ∷ xs) (y ∷ ys) e = let a = h x y e.0 in let b = each_all f
 module _ (bytes : List ℕ) (ls : List Local) where
   local_found : (t : Lexeme) (i : LocalId) → find_local bytes ls t ≡ Some i → Names bytes ls t i
   local_found t i e =
-    let p = then_some (number_of ls (text bytes t)) (λ n. Some (record { 0 = n })) i e in
-    let s : record { 0 = p.0 } ≡ i = some_is _ i p.2 in
-    let n : p.0 ≡ i.0 = ap (λ (j : LocalId). j.0) s in
-    number_has ls i.0 (text bytes t) (p.1 ∙ ap (λ (m : ℕ). Some m) n)
+      let p = then_some (number_of ls (text bytes t)) (λ n. Some (record { 0 = n })) i e in
+      let s : record { 0 = p.0 } ≡ i = some_is _ i p.2 in
+      let n : p.0 ≡ i.0 = ap (λ (j : LocalId). j.0) s in
+      number_has ls i.0 (text bytes t) (p.1 ∙ ap (λ (m : ℕ). Some m) n)
 
   local_all : Distinct ls → (t : Lexeme) (i : LocalId) → Names bytes ls t i → find_local bytes ls t ≡ Some i
   local_all d t i h = let n = number_is ls i.0 h.0 (text bytes t) d h.1 h.2 in rw n refl
@@ -85,23 +85,23 @@ module _ (bytes : List ℕ) (ls : List Local) where
       of true b s l = let bad : ◌≡◌ {A = Option Invoke} None (Some v) = sym (rw s refl) ∙ e in absurd (none_some v bad)
       of false true s l = let bad : ◌≡◌ {A = Option Invoke} None (Some v) = sym (rw (s, l) refl) ∙ e in absurd (none_some v bad)
       of false false s l =
-        let found : (find_all (find_imm bytes ls) raw.args >? λ args. Some (call_to (sig_of bytes raw.sig) args)) ≡ Some v = sym (rw (s, l) refl) ∙ e in
-        let p = then_some (find_all (find_imm bytes ls) raw.args) (λ args. Some (call_to (sig_of bytes raw.sig) args)) v found in
-        record {
-          foreign = λ h. let t = Rattle.jimple_text.proofs.Locals.equal_text (text bytes raw.sig.class) own h in let bad : true ≡ false = sym t ∙ s in cc;
-          few = search (rules, arith, l);
-          args = p.0;
-          each = each_found (find_imm bytes ls) (ImmIs bytes ls) imm_found raw.args p.0 p.1;
-          is = sym (some_is (call_to (sig_of bytes raw.sig) p.0) v p.2);
-        }
+          let found : (find_all (find_imm bytes ls) raw.args >? λ args. Some (call_to (sig_of bytes raw.sig) args)) ≡ Some v = sym (rw (s, l) refl) ∙ e in
+          let p = then_some (find_all (find_imm bytes ls) raw.args) (λ args. Some (call_to (sig_of bytes raw.sig) args)) v found in
+          record {
+            foreign = λ h. let t = Rattle.jimple_text.proofs.Locals.equal_text (text bytes raw.sig.class) own h in let bad : true ≡ false = sym t ∙ s in cc;
+            few = search (rules, arith, l);
+            args = p.0;
+            each = each_found (find_imm bytes ls) (ImmIs bytes ls) imm_found raw.args p.0 p.1;
+            is = sym (some_is (call_to (sig_of bytes raw.sig) p.0) v p.2);
+          }
 
     call_all : Distinct ls → (raw : RawCall) (v : Invoke) → CallIs bytes own ls raw v → find_call bytes own ls raw ≡ Some v
     call_all d raw v h =
-      let s = other_text (text bytes raw.sig.class) own h.foreign in
-      let l : nat_lt 255 (length raw.args) ≡ false = let few = h.few in search (rules, arith, few) in
-      let a = each_all (find_imm bytes ls) (ImmIs bytes ls) (imm_all d) raw.args h.args h.each in
-      let e = h.is in
-      rw (s, l, a, e) refl
+        let s = other_text (text bytes raw.sig.class) own h.foreign in
+        let l : nat_lt 255 (length raw.args) ≡ false = let few = h.few in search (rules, arith, few) in
+        let a = each_all (find_imm bytes ls) (ImmIs bytes ls) (imm_all d) raw.args h.args h.each in
+        let e = h.is in
+        rw (s, l, a, e) refl
 
     rhs_found : (x : RawRhs) (v : Rhs) → find_rhs bytes own ls x ≡ Some v → RhsIs bytes own ls x v
     rhs_found (raw_sides.Use x) v e = let p = then_some (find_imm bytes ls x) (λ y. Some (sides.Use y)) v e in (p.0, imm_found x p.0 p.1, sym (some_is (sides.Use p.0) v p.2))
@@ -113,9 +113,9 @@ module _ (bytes : List ℕ) (ls : List Local) where
 
     stmt_found : (x : RawStmt) (v : Stmt) → find_stmt bytes own ls x ≡ Some v → StmtIs bytes own ls x v
     stmt_found (raw_stmts.Assign t r) v e =
-      let p = then_some (find_local bytes ls t) (λ i. find_rhs bytes own ls r >? λ y. Some (stmts.Assign (places.Local i) y)) v e in
-      let q = then_some (find_rhs bytes own ls r) (λ y. Some (stmts.Assign (places.Local p.0) y)) v p.2 in
-      (p.0, q.0, local_found t p.0 p.1, rhs_found r q.0 q.1, sym (some_is (stmts.Assign (places.Local p.0) q.0) v q.2))
+        let p = then_some (find_local bytes ls t) (λ i. find_rhs bytes own ls r >? λ y. Some (stmts.Assign (places.Local i) y)) v e in
+        let q = then_some (find_rhs bytes own ls r) (λ y. Some (stmts.Assign (places.Local p.0) y)) v p.2 in
+        (p.0, q.0, local_found t p.0 p.1, rhs_found r q.0 q.1, sym (some_is (stmts.Assign (places.Local p.0) q.0) v q.2))
     stmt_found (raw_stmts.Call k) v e = let p = then_some (find_call bytes own ls k) (λ c. Some (stmts.Call c)) v e in (p.0, call_found k p.0 p.1, sym (some_is (stmts.Call p.0) v p.2))
 
     stmt_all : Distinct ls → (x : RawStmt) (v : Stmt) → StmtIs bytes own ls x v → find_stmt bytes own ls x ≡ Some v

@@ -80,26 +80,26 @@ number_is (k ∷ ks) (suc i) l name d g e =
     let t : bytes_eq k.name name ≡ false = other_text k.name name (λ h. all_get (λ m. k.name ≡ m.name → ⊥) ks i l d.0 g (h ∙ sym e)) in
     rw (t, r) refl
   where
-  all_get : (P : Local → Type 0) (ls : List Local) (i : ℕ) (l : Local) → AllByRecursion P ls → slice_get ls i ≡ Some l → P l
-  all_get P [] i l h g = absurd (no_some l (sym g))
-  all_get P (k ∷ ks) zero l h g = subst P (let s : k ≡ l = cc in s) h.0
-  all_get P (k ∷ ks) (suc i) l h g = all_get P ks i l h.1 g
+    all_get : (P : Local → Type 0) (ls : List Local) (i : ℕ) (l : Local) → AllByRecursion P ls → slice_get ls i ≡ Some l → P l
+    all_get P [] i l h g = absurd (no_some l (sym g))
+    all_get P (k ∷ ks) zero l h g = subst P (let s : k ≡ l = cc in s) h.0
+    all_get P (k ∷ ks) (suc i) l h g = all_get P ks i l h.1 g
 
 -- the number that is found is that of a local of the name
 pub number_has : (ls : List Local) (i : ℕ) (name : List ℕ) → number_of ls name ≡ Some i → (l : Local) × (slice_get ls i ≡ Some l) × (l.name ≡ name)
 number_has [] i name e = absurd (no_some i (sym e))
 number_has (k ∷ ks) i name e = of (bytes_eq k.name name) (number_of ks name) refl refl (λ m h. number_has ks m name h) i e where
   of : (b : Bool) (r : Option ℕ) → bytes_eq k.name name ≡ b → number_of ks name ≡ r → ((m : ℕ) → number_of ks name ≡ Some m → (l : Local) × (slice_get ks m ≡ Some l) × (l.name ≡ name))
-    → (i : ℕ) → cond (bytes_eq k.name name) (Some 0) (option_map suc (number_of ks name)) ≡ Some i → (l : Local) × (slice_get (k ∷ ks) i ≡ Some l) × (l.name ≡ name)
+      → (i : ℕ) → cond (bytes_eq k.name name) (Some 0) (option_map suc (number_of ks name)) ≡ Some i → (l : Local) × (slice_get (k ∷ ks) i ≡ Some l) × (l.name ≡ name)
   of true r s q f i e =
-    let z : ◌≡◌ {A = Option ℕ} (Some 0) (Some i) = sym (rw s refl) ∙ e in
-    let n : 0 ≡ i = cc in
-    subst (λ (j : ℕ). (l : Local) × (slice_get (k ∷ ks) j ≡ Some l) × (l.name ≡ name)) n (k, refl, same_text k.name name s)
+      let z : ◌≡◌ {A = Option ℕ} (Some 0) (Some i) = sym (rw s refl) ∙ e in
+      let n : 0 ≡ i = cc in
+      subst (λ (j : ℕ). (l : Local) × (slice_get (k ∷ ks) j ≡ Some l) × (l.name ≡ name)) n (k, refl, same_text k.name name s)
   of false None s q f i e = let bad : ◌≡◌ {A = Option ℕ} None (Some i) = sym (rw (s, q) refl) ∙ e in absurd (no_some i (sym bad))
   of false (Some m) s q f i e =
-    let z : ◌≡◌ {A = Option ℕ} (Some (suc m)) (Some i) = sym (rw (s, q) refl) ∙ e in
-    let n : suc m ≡ i = cc in
-    subst (λ (j : ℕ). (l : Local) × (slice_get (k ∷ ks) j ≡ Some l) × (l.name ≡ name)) n (f m q)
+      let z : ◌≡◌ {A = Option ℕ} (Some (suc m)) (Some i) = sym (rw (s, q) refl) ∙ e in
+      let n : suc m ≡ i = cc in
+      subst (λ (j : ℕ). (l : Local) × (slice_get (k ∷ ks) j ≡ Some l) × (l.name ≡ name)) n (f m q)
 
 -- the locals before one, it, and those after it
 split_at : (ls : List Local) (i : ℕ) (l : Local) → i < length ls → l ≡ get_or ls i l → ls ≡ take i ls ++ l ∷ drop (suc i) ls

@@ -119,7 +119,7 @@ both_fails f a b ts left x (stops.Refused why at) h k = let g = k.1 in (k.0, rw 
 
 -- the pieces behind the first one, and then no more
 pub both_ended : {A : Type 0} (a b : Grammar A) (look : Look) (ts left rest : List Lexeme) (x : A) (pieces : List A) → reading a ts ≡ Ok (x, left) → Onward (λ xs end. xs) look b ends (reading (plain (λ xs end. xs) look b ends) left) pieces rest → sees_one look rest ≡ false
-  → reading (both (λ x xs. x ∷ xs) a (plain (λ xs end. xs) look b ends)) ts ≡ Ok (x ∷ pieces, rest)
+    → reading (both (λ x xs. x ∷ xs) a (plain (λ xs end. xs) look b ends)) ts ≡ Ok (x ∷ pieces, rest)
 both_ended a b look ts left rest x pieces h o s =
     let g : reading (plain (λ xs end. xs) look b ends) left ≡ Ok (pieces, rest) = ended (λ xs end. xs) look b ends (reading (plain (λ xs end. xs) look b ends) left) pieces rest tt rest o s refl in
     rw (h, g) refl

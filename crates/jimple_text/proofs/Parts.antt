@@ -28,7 +28,7 @@ pub record Laws {A : Type 0} (S : List Lexeme → A → Type 0) (P : List Lexeme
   pub begun : (ts : List Lexeme) (v : A) → S ts v → P ts
 
 pub then_laws : {A B C : Type 0} (S : List Lexeme → A → Type 0) (P : List Lexeme → Type 0) (T : A → List Lexeme → B → Type 0) (Q : A → List Lexeme → Type 0) (f : A → B → C)
-  → Laws S P → ((x : A) → Laws (T x) (Q x)) → Laws (Then S T f) (ThenBegins S P Q)
+    → Laws S P → ((x : A) → Laws (T x) (Q x)) → Laws (Then S T f) (ThenBegins S P Q)
 then_laws S P T Q f a b = record {
   empty = inl a.empty;
   closed = λ xs ys h. elim h [
@@ -89,7 +89,7 @@ abbrev pub Again : {A : Type 0} → (List Lexeme → A → Type 0) → (ℕ → 
 Again {A} S Q ts r = (k : ℕ) (x : A) (xs rest : List Lexeme) → ts ≡ xs ++ rest → S xs x → Meets (Q k x) rest → r ≡ Ok (x, rest)
 
 module _ {A B C : Type 0} (S : List Lexeme → A → Type 0) (P : ℕ → List Lexeme → Type 0) (T : A → List Lexeme → B → Type 0) (Q : ℕ → A → List Lexeme → Type 0) (f : A → B → C)
-  (a : (k : ℕ) → Laws S (P k)) (b : (k : ℕ) (x : A) → Laws (T x) (Q k x)) (ts : List Lexeme) where
+    (a : (k : ℕ) → Laws S (P k)) (b : (k : ℕ) (x : A) → Laws (T x) (Q k x)) (ts : List Lexeme) where
   abbrev R : ℕ → List Lexeme → Type 0
   R k = ThenBegins S (P k) (Q k)
 
@@ -105,15 +105,15 @@ module _ {A B C : Type 0} (S : List Lexeme → A → Type 0) (P : ℕ → List L
     begun = inl bad.begun;
     off = off_of left bad.parts bad.off;
     open_end = λ e v h.
-      let whole : ts ≡ h.2 ++ h.3 = bad.parts ∙ ap (λ (l : List Lexeme). bad.front ++ l) e ∙ append-nil bad.front ∙ h.4 in
-      let no = again 0 h.0 h.2 h.3 whole h.5 (meets 0 h.0 h.3 ((b 0 h.0).begun h.3 h.1 h.6)) in absurd cc;
+        let whole : ts ≡ h.2 ++ h.3 = bad.parts ∙ ap (λ (l : List Lexeme). bad.front ++ l) e ∙ append-nil bad.front ∙ h.4 in
+        let no = again 0 h.0 h.2 h.3 whole h.5 (meets 0 h.0 h.3 ((b 0 h.0).begun h.3 h.1 h.6)) in absurd cc;
     reason = record { only = λ k o. bad.reason.only k (on_first k left bad.parts bad.off o); so = λ k e. on_both k left (bad.reason.so k e) };
   } where
     beyond : (k : ℕ) (t : Lexeme) (l : List Lexeme) → ts ≡ bad.front ++ t ∷ l → (P 0 (bad.front ++ t ∷ []) → ⊥) → (x : A) (xs ys : List Lexeme) → bad.front ++ t ∷ [] ≡ xs ++ ys → S xs x → Q k x ys → ⊥
     beyond k t l parts off x xs [] e s q = off (subst (P 0) (sym e) (subst (P 0) (sym (append-nil xs)) ((a 0).begun xs x s)))
     beyond k t l parts off x xs (y ∷ ys) e s q =
-      let whole : ts ≡ xs ++ ((y ∷ ys) ++ l) = parts ∙ sym (append_assoc bad.front (t ∷ []) l) ∙ ap (λ (us : List Lexeme). us ++ l) e ∙ append_assoc xs (y ∷ ys) l in
-      let no = again k x xs ((y ∷ ys) ++ l) whole s ((b k x).closed (y ∷ []) ys q) in absurd cc
+        let whole : ts ≡ xs ++ ((y ∷ ys) ++ l) = parts ∙ sym (append_assoc bad.front (t ∷ []) l) ∙ ap (λ (us : List Lexeme). us ++ l) e ∙ append_assoc xs (y ∷ ys) l in
+        let no = again k x xs ((y ∷ ys) ++ l) whole s ((b k x).closed (y ∷ []) ys q) in absurd cc
 
     off_of : (l : List Lexeme) → ts ≡ bad.front ++ l → Off (P 0) bad.front l → Off (R 0) bad.front l
     off_of [] parts off = tt
@@ -142,9 +142,9 @@ module _ {A B C : Type 0} (S : List Lexeme → A → Type 0) (P : ℕ → List L
 
     same_cut : (y : A) (ys w l : List Lexeme) → ◌≡◌ {A = Read A} (Ok (x, left)) (Ok (y, ys ++ l)) → left ≡ w ++ l → (x ≡ y) × (ys ≡ w)
     same_cut y ys w l e k =
-      let p = ok_is (x, left) (y, ys ++ l) e in
-      let is : left ≡ ys ++ l = ap (λ (q : A × List Lexeme). q.1) p in
-      (ap (λ (q : A × List Lexeme). q.0) p, append_cancel_right ys w l (sym is ∙ k))
+        let p = ok_is (x, left) (y, ys ++ l) e in
+        let is : left ≡ ys ++ l = ap (λ (q : A × List Lexeme). q.1) p in
+        (ap (λ (q : A × List Lexeme). q.0) p, append_cancel_right ys w l (sym is ∙ k))
 
     pub goes_on : (k : ℕ) (w l : List Lexeme) → left ≡ w ++ l → (w ≡ [] → ⊥) → R k (good.front ++ w) → Q k x w
     goes_on k w l e n (inl p) = absurd (none_over k w l e n p)
@@ -152,16 +152,16 @@ module _ {A B C : Type 0} (S : List Lexeme → A → Type 0) (P : ℕ → List L
       second : (y : A) (xs ys : List Lexeme) → good.front ++ w ≡ xs ++ ys → S xs y → Q k y ys → Q k x w
       second y xs [] m s q = absurd (none_over k w l e n (subst (P k) (sym (m ∙ append-nil xs)) ((a k).begun xs y s)))
       second y xs (t ∷ ys) m s q =
-        let whole : ts ≡ xs ++ ((t ∷ ys) ++ l) = good.parts ∙ ap (λ (us : List Lexeme). good.front ++ us) e ∙ sym (append_assoc good.front w l) ∙ ap (λ (us : List Lexeme). us ++ l) m ∙ append_assoc xs (t ∷ ys) l in
-        let is = same_cut y (t ∷ ys) w l (again k y xs ((t ∷ ys) ++ l) whole s ((b k y).closed (t ∷ []) ys q)) e in
-        subst (λ (v : A). Q k v w) (sym is.0) (subst (Q k y) is.1 q)
+          let whole : ts ≡ xs ++ ((t ∷ ys) ++ l) = good.parts ∙ ap (λ (us : List Lexeme). good.front ++ us) e ∙ sym (append_assoc good.front w l) ∙ ap (λ (us : List Lexeme). us ++ l) m ∙ append_assoc xs (t ∷ ys) l in
+          let is = same_cut y (t ∷ ys) w l (again k y xs ((t ∷ ys) ++ l) whole s ((b k y).closed (t ∷ []) ys q)) e in
+          subst (λ (v : A). Q k v w) (sym is.0) (subst (Q k y) is.1 q)
 
     pub ends_so : (v : C) → Then S T f (good.front ++ left) v → (y : B) × T x left y
     ends_so v h =
-      let whole : ts ≡ h.2 ++ h.3 = good.parts ∙ h.4 in
-      let e : ◌≡◌ {A = Read A} (Ok (x, left)) (Ok (h.0, h.3)) = again 0 h.0 h.2 h.3 whole h.5 (meets 0 h.0 h.3 ((b 0 h.0).begun h.3 h.1 h.6)) in
-      let p = ok_is (x, left) (h.0, h.3) e in
-      (h.1, subst (λ (q : A × List Lexeme). T q.0 q.1 h.1) (sym p) h.6)
+        let whole : ts ≡ h.2 ++ h.3 = good.parts ∙ h.4 in
+        let e : ◌≡◌ {A = Read A} (Ok (x, left)) (Ok (h.0, h.3)) = again 0 h.0 h.2 h.3 whole h.5 (meets 0 h.0 h.3 ((b 0 h.0).begun h.3 h.1 h.6)) in
+        let p = ok_is (x, left) (h.0, h.3) e in
+        (h.1, subst (λ (q : A × List Lexeme). T q.0 q.1 h.1) (sym p) h.6)
 
     some : (fb : List Lexeme) (t : Lexeme) → fb ++ t ∷ [] ≡ [] → ⊥
     some [] t e = absurd cc
@@ -195,8 +195,8 @@ module _ {A B C : Type 0} (S : List Lexeme → A → Type 0) (P : ℕ → List L
       begun = inr (x, good.front, g.front, refl, good.spelled, g.begun);
       off = later_off 0 g.front l.0 g.parts g.off;
       open_end = λ e v h.
-        let is : left ≡ g.front = g.parts ∙ ap (λ (us : List Lexeme). g.front ++ us) e ∙ append-nil g.front in
-        let y = ends_so v (subst (λ (us : List Lexeme). Then S T f (good.front ++ us) v) (sym is) h) in
-        g.open_end e y.0 (subst (λ (us : List Lexeme). T x us y.0) is y.1);
+          let is : left ≡ g.front = g.parts ∙ ap (λ (us : List Lexeme). g.front ++ us) e ∙ append-nil g.front in
+          let y = ends_so v (subst (λ (us : List Lexeme). Then S T f (good.front ++ us) v) (sym is) h) in
+          g.open_end e y.0 (subst (λ (us : List Lexeme). T x us y.0) is y.1);
       reason = record { only = λ k o. g.reason.only k (on_second k g.front l.0 g.parts o); so = λ k e. on_whole k g.front l.0 (g.reason.so k e) };
     }

@@ -26,11 +26,11 @@ stmts_with bytes own ls ms raw ss vs s h e = (ss, stmts_found bytes ls own raw s
 
 pub body_refused : (bytes own : List ℕ) (raw : RawBody) (ls : List Local) (rs : List RawStmt) (e : BuildStop) → ls ≡ locals bytes raw.decls → rs ≡ raw.stmts → Refuses (Distinct ls → (ss : List Stmt) → Each (StmtIs bytes own ls) rs ss → ⊥) e → Refuses ((b : Body) → BodyIs bytes own raw b → ⊥) e
 body_refused bytes own raw ls rs e l r h = refuses e
-  (λ f b k. f (subst Distinct (sym l) k.distinct) k.stmts
+    (λ f b k. f (subst Distinct (sym l) k.distinct) k.stmts
     (subst (λ (xs : List RawStmt). Each (StmtIs bytes own ls) xs k.stmts) (sym r) (subst (λ (ms : List Local). Each (StmtIs bytes own ms) raw.stmts k.stmts) (sym l) k.each))) h
 
 pub body_is : (bytes own : List ℕ) (raw : RawBody) (ls : List Local) (rs : List RawStmt) (vs : List Stmt) → ls ≡ locals bytes raw.decls → rs ≡ raw.stmts → Distinct ls → (xs : List Stmt) × Each (StmtIs bytes own ls) rs xs × (vs ≡ xs ++ stmts_are.Return None ∷ [])
-  → length ls ≤ 65535 → length raw.stmts < 4194304 → BodyIs bytes own raw (record { locals = ls; stmts = vs; catches = [] })
+    → length ls ≤ 65535 → length raw.stmts < 4194304 → BodyIs bytes own raw (record { locals = ls; stmts = vs; catches = [] })
 body_is bytes own raw ls rs vs l r d h few some = record {
   distinct = subst Distinct l d;
   few_locals = subst (λ (ms : List Local). length ms ≤ 65535) l few;

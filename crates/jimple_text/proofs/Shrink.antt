@@ -68,21 +68,21 @@ refused_fails {A} j ks (t ∷ ts) x e = elim (chosen {B = Read A} (has ks t.kind
 ]
 
 module _ {S A B : Type 0} (look : Look) (ra : S → List Lexeme → Read A) (step : S → A → S) (rb : List Lexeme → Read B) (m : Bool)
-  (sa : (s : S) (ts : List Lexeme) (x : A × List Lexeme) → ra s ts ≡ Ok x → length x.1 ≤ length ts) (sb : (ts : List Lexeme) (x : B × List Lexeme) → rb ts ≡ Ok x → Shorter m ts x.1) where
+    (sa : (s : S) (ts : List Lexeme) (x : A × List Lexeme) → ra s ts ≡ Ok x → length x.1 ≤ length ts) (sb : (ts : List Lexeme) (x : B × List Lexeme) → rb ts ≡ Ok x → Shorter m ts x.1) where
   last_shrinks : (ts : List Lexeme) (x : (List A × B) × List Lexeme) → (rb ts >>= λ y. Ok (([], y.0), y.1)) ≡ Ok x → Shorter m ts x.1
   last_shrinks ts x e =
-    let p = bind_ok (rb ts) (λ y. Ok (([], y.0), y.1)) x e in
-    let s = ok_is (([], p.0.0), p.0.1) x p.2 in
-    subst (λ (p : (List A × B) × List Lexeme). Shorter m ts p.1) s (sb ts p.0 p.1)
+      let p = bind_ok (rb ts) (λ y. Ok (([], y.0), y.1)) x e in
+      let s = ok_is (([], p.0.0), p.0.1) x p.2 in
+      subst (λ (p : (List A × B) × List Lexeme). Shorter m ts p.1) s (sb ts p.0 p.1)
 
   repeat_shrinks : (n : ℕ) (t : S) (ts : List Lexeme) (x : (List A × B) × List Lexeme) → repeat n look ra step rb t ts ≡ Ok x → Shorter m ts x.1
   repeat_shrinks zero t ts x e = last_shrinks ts x e
   repeat_shrinks (suc n) t ts x e = elim (chosen (sees_one look ts) (ra t ts >>= λ x. repeat n look ra step rb (step t x.0) x.1 >>= λ y. Ok ((x.0 ∷ y.0.0, y.0.1), y.1)) (rb ts >>= λ y. Ok (([], y.0), y.1)) (Ok x) e) [
     | inl h ↦
-      let p = bind_ok (ra t ts) (λ x. repeat n look ra step rb (step t x.0) x.1 >>= λ y. Ok ((x.0 ∷ y.0.0, y.0.1), y.1)) x h.1 in
-      let q = bind_ok (repeat n look ra step rb (step t p.0.0) p.0.1) (λ y. Ok ((p.0.0 ∷ y.0.0, y.0.1), y.1)) x p.2 in
-      let s = ok_is ((p.0.0 ∷ q.0.0.0, q.0.0.1), q.0.1) x q.2 in
-      subst (λ (p : (List A × B) × List Lexeme). Shorter m ts p.1) s (shorter_second true m ts p.0.1 q.0.1 (sa t ts p.0 p.1) (repeat_shrinks n (step t p.0.0) p.0.1 q.0 q.1))
+        let p = bind_ok (ra t ts) (λ x. repeat n look ra step rb (step t x.0) x.1 >>= λ y. Ok ((x.0 ∷ y.0.0, y.0.1), y.1)) x h.1 in
+        let q = bind_ok (repeat n look ra step rb (step t p.0.0) p.0.1) (λ y. Ok ((p.0.0 ∷ y.0.0, y.0.1), y.1)) x p.2 in
+        let s = ok_is ((p.0.0 ∷ q.0.0.0, q.0.0.1), q.0.1) x q.2 in
+        subst (λ (p : (List A × B) × List Lexeme). Shorter m ts p.1) s (shorter_second true m ts p.0.1 q.0.1 (sa t ts p.0 p.1) (repeat_shrinks n (step t p.0.0) p.0.1 q.0 q.1))
     | inr h ↦ last_shrinks ts x h.1
   ]
 
@@ -103,7 +103,7 @@ shrinks {A} (many f look a step t b) ts x e =
     let p = bind_ok (repeat (length ts) look (λ s. reading (a s)) step (reading b) t ts) (λ z. Ok (f z.0.0 z.0.1, z.1)) x e in
     let s = ok_is (f p.0.0.0 p.0.0.1, p.0.1) x p.2 in
     subst (λ (p : A × List Lexeme). Shorter (may_be_empty b) ts p.1) s
-      (repeat_shrinks look (λ s. reading (a s)) step (reading b) (may_be_empty b) (λ s ts x e. shorter_le (may_be_empty (a s)) ts x.1 (shrinks (a s) ts x e)) (λ ts x e. shrinks b ts x e) (length ts) t ts p.0 p.1)
+    (repeat_shrinks look (λ s. reading (a s)) step (reading b) (may_be_empty b) (λ s ts x e. shorter_le (may_be_empty (a s)) ts x.1 (shrinks (a s) ts x e)) (λ ts x e. shrinks b ts x e) (length ts) t ts p.0 p.1)
 shrinks {A} (given f a b) ts x e =
     let p = bind_ok (reading a ts) (λ x. reading (b x.0) x.1 >>= λ y. Ok (f x.0 y.0, y.1)) x e in
     let q = bind_ok (reading (b p.0.0) p.0.1) (λ y. Ok (f p.0.0 y.0, y.1)) x p.2 in

@@ -12,15 +12,19 @@ use Rattle.jimple_text.proofs.Parts.{cut, Laws, then_laws}
 pub or_left : (a b : Bool) → a ≡ true → (a || b) ≡ true
 or_left true b e = refl
 or_left false b e = absurd cc
+
 pub or_right : (a b : Bool) → b ≡ true → (a || b) ≡ true
 or_right true b e = refl
 or_right false b e = e
+
 pub and_both : (a b : Bool) → a ≡ true → b ≡ true → (a && b) ≡ true
 and_both true b e h = h
 and_both false b e h = absurd cc
+
 pub and_parts : (a b : Bool) → (a && b) ≡ true → (a ≡ true) × (b ≡ true)
 and_parts true b e = (refl, e)
 and_parts false b e = absurd cc
+
 pub not_both : (a : Bool) → a ≡ true → a ≡ false → ⊥
 not_both true e h = cc
 not_both false e h = cc
@@ -32,6 +36,7 @@ or_kept false b c h f = f h
 pub has_left : (ks ms : Kinds) (k : Kind) → has ks k ≡ true → has (ks ++ ms) k ≡ true
 has_left [] ms k h = absurd cc
 has_left (j ∷ ks) ms k h = or_kept (number k == number j) (has ks k) (has (ks ++ ms) k) h (λ e. has_left ks ms k e)
+
 pub has_right : (ks ms : Kinds) (k : Kind) → has ms k ≡ true → has (ks ++ ms) k ≡ true
 has_right [] ms k h = h
 has_right (j ∷ ks) ms k h = or_right (number k == number j) (has (ks ++ ms) k) (has_right ks ms k h)

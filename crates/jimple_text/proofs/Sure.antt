@@ -64,7 +64,7 @@ into_right false ks ms k e h = absurd cc
 
 -- a spelled front holds the first token, or is empty
 from_front : {A : Type 0} (a : Grammar A) → ((t : Lexeme) (ts : List Lexeme) → BeginsBy 0 a (t ∷ ts) → has (first a) t.kind ≡ true) → (t : Lexeme) (ts : List Lexeme) (x : A) (front rest : List Lexeme) → t ∷ ts ≡ front ++ rest → Spells a front x
-  → (has (first a) t.kind ≡ true) ⊎ ((may_be_empty a ≡ true) × (rest ≡ t ∷ ts))
+    → (has (first a) t.kind ≡ true) ⊎ ((may_be_empty a ≡ true) × (rest ≡ t ∷ ts))
 from_front a f t ts x [] rest e s = inr (empty_when a x s, sym e)
 from_front a f t ts x (u ∷ front) rest e s = inl (let same : u ≡ t = cc in subst (λ (w : Lexeme). has (first a) w.kind ≡ true) same (f u front ((laws 0 a).begun (u ∷ front) x s)))
 
@@ -124,7 +124,7 @@ none_seen look (t ∷ ts) le n s = omega (arith, le)
 
 -- pieces that are spelled are read again
 module _ {S A B : Type 0} (look : Look) (a : S → Grammar A) (step : S → A → S) (b : Grammar B) (ks after : Kinds)
-  (sa : (s : S) → Sure (a s) (ks ++ next b after)) (fs : (s : S) → first (a s) ≡ ks) (w : (s : S) → may_be_empty (a s) ≡ false) (sb : Sure b after) where
+    (sa : (s : S) → Sure (a s) (ks ++ next b after)) (fs : (s : S) → first (a s) ≡ ks) (w : (s : S) → may_be_empty (a s) ≡ false) (sb : Sure b after) where
   first_kind : (s : S) (t : Lexeme) → has (first (a s)) t.kind ≡ true → has (ks ++ next b after) t.kind ≡ true
   first_kind s t h = has_left ks (next b after) t.kind (subst (λ (m : Kinds). has m t.kind ≡ true) (fs s) h)
 
@@ -147,19 +147,19 @@ module _ {S A B : Type 0} (look : Look) (a : S → Grammar A) (step : S → A �
   meets_many n s (t ∷ rest) m = begins_kind n s t [] m
 
   module _ (tells : Tells look a step b after)
-    (ra : (s : S) (xs rest : List Lexeme) (v : A) → Spells (a s) xs v → Follow (ks ++ next b after) rest → reading (a s) (xs ++ rest) ≡ Ok (v, rest))
-    (rb : (xs rest : List Lexeme) (v : B) → Spells b xs v → Follow after rest → reading b (xs ++ rest) ≡ Ok (v, rest)) (rest : List Lexeme) (f : Follow after rest) where
+      (ra : (s : S) (xs rest : List Lexeme) (v : A) → Spells (a s) xs v → Follow (ks ++ next b after) rest → reading (a s) (xs ++ rest) ≡ Ok (v, rest))
+      (rb : (xs rest : List Lexeme) (v : B) → Spells b xs v → Follow after rest → reading b (xs ++ rest) ≡ Ok (v, rest)) (rest : List Lexeme) (f : Follow after rest) where
     many_again : (n : ℕ) (s : S) (xs : List Lexeme) (z : List A × B) → ManySpells (λ s. Spells (a s)) step (Spells b) s xs z → length (xs ++ rest) ≤ n → repeat n look (λ s. reading (a s)) step (reading b) s (xs ++ rest) ≡ Ok (z, rest)
     many_again zero s xs z (last y h e) le = let r = rb xs rest y h f in rw (r, e) refl
     many_again (suc n) s xs z (last y h e) le = let r = rb xs rest y h f in let l = tells.at_end xs rest y h f in rw (l, r, e) refl
     many_again zero s xs z (more x k front back parts sp h e) le = absurd (none_seen look (xs ++ rest) le tells.none (tells.at_piece s xs rest z (x, k, front, back, parts, sp, h, e) f))
     many_again (suc n) s xs z (more x k front back parts sp h e) le =
-      let l = tells.at_piece s xs rest z (x, k, front, back, parts, sp, h, e) f in
-      let cut_is : xs ++ rest ≡ front ++ (back ++ rest) = ap (λ (us : List Lexeme). us ++ rest) parts ∙ append_assoc front back rest in
-      let r : reading (a s) (xs ++ rest) ≡ Ok (x, back ++ rest) = ap (reading (a s)) cut_is ∙ ra s front (back ++ rest) x sp (follow_many (step s x) back rest k h f) in
-      let less : length (back ++ rest) < length (xs ++ rest) = subst (λ (c : Bool). Shorter c (xs ++ rest) (back ++ rest)) (w s) (shrinks (a s) (xs ++ rest) (x, back ++ rest) r) in
-      let i = many_again n (step s x) back k h (omega (arith, less, le)) in
-      rw (l, r, i, e) refl
+        let l = tells.at_piece s xs rest z (x, k, front, back, parts, sp, h, e) f in
+        let cut_is : xs ++ rest ≡ front ++ (back ++ rest) = ap (λ (us : List Lexeme). us ++ rest) parts ∙ append_assoc front back rest in
+        let r : reading (a s) (xs ++ rest) ≡ Ok (x, back ++ rest) = ap (reading (a s)) cut_is ∙ ra s front (back ++ rest) x sp (follow_many (step s x) back rest k h f) in
+        let less : length (back ++ rest) < length (xs ++ rest) = subst (λ (c : Bool). Shorter c (xs ++ rest) (back ++ rest)) (w s) (shrinks (a s) (xs ++ rest) (x, back ++ rest) r) in
+        let i = many_again n (step s x) back k h (omega (arith, less, le)) in
+        rw (l, r, i, e) refl
 
 pub again : {A : Type 0} (g : Grammar A) (after : Kinds) → Sure g after → (xs rest : List Lexeme) (v : A) → Spells g xs v → Follow after rest → reading g (xs ++ rest) ≡ Ok (v, rest)
 again (nothing x) after s xs rest v h f = rw (h.0, h.1) refl
@@ -192,31 +192,36 @@ again (given g a b) after s xs rest v h f =
 
 -- the same tokens, and what they spell and begin
 transfer : {A : Type 0} (S S' : List Lexeme → A → Type 0) (P P' : ℕ → List Lexeme → Type 0) (ts : List Lexeme) (r : Read A)
-  → ((p : List Lexeme) (v : A) → S p v → S' p v) → ((k : ℕ) (p : List Lexeme) → P k p → P' k p) → ((k : ℕ) (p l : List Lexeme) → ts ≡ p ++ l → P' k p → P k p) → ((v : A) → S' ts v → S ts v) → Exact S P ts r → Exact S' P' ts r
+    → ((p : List Lexeme) (v : A) → S p v → S' p v) → ((k : ℕ) (p : List Lexeme) → P k p → P' k p) → ((k : ℕ) (p l : List Lexeme) → ts ≡ p ++ l → P' k p → P k p) → ((v : A) → S' ts v → S ts v) → Exact S P ts r → Exact S' P' ts r
 transfer {A} S S' P P' ts (Ok x) su pu pd sd g = record { front = g.front; parts = g.parts; spelled = su g.front x.0 g.spelled; off = λ k. off_of k g.front x.1 g.parts (g.off k) } where
   off_of : (k : ℕ) (front left : List Lexeme) → ts ≡ front ++ left → Off (P k) front left → Off (P' k) front left
   off_of k front [] e o = tt
   off_of k front (t ∷ left) e o = λ h. o (pd k (front ++ t ∷ []) left (e ∙ sym (append_assoc front (t ∷ []) left)) h)
 transfer {A} S S' P P' ts (Err l) su pu pd sd g = record {
-  front = g.front; parts = g.parts; begun = pu 0 g.front g.begun; off = off_of 0 g.front l.0 g.parts g.off;
+  front = g.front;
+  parts = g.parts;
+  begun = pu 0 g.front g.begun;
+  off = off_of 0 g.front l.0 g.parts g.off;
   open_end = λ e v h.
-    let is : ts ≡ g.front = g.parts ∙ ap (λ (us : List Lexeme). g.front ++ us) e ∙ append-nil g.front in
-    g.open_end e v (subst (λ (us : List Lexeme). S us v) is (sd v (subst (λ (us : List Lexeme). S' us v) (sym is) h)));
+      let is : ts ≡ g.front = g.parts ∙ ap (λ (us : List Lexeme). g.front ++ us) e ∙ append-nil g.front in
+      g.open_end e v (subst (λ (us : List Lexeme). S us v) is (sd v (subst (λ (us : List Lexeme). S' us v) (sym is) h)));
   reason = record { only = λ k o. g.reason.only k (on_down k g.front l.0 g.parts o); so = λ k e. on_up k g.front l.0 (g.reason.so k e) };
 } where
   off_of : (k : ℕ) (front left : List Lexeme) → ts ≡ front ++ left → Off (P k) front left → Off (P' k) front left
   off_of k front [] e o = tt
   off_of k front (t ∷ left) e o = λ h. o (pd k (front ++ t ∷ []) left (e ∙ sym (append_assoc front (t ∷ []) left)) h)
+
   on_down : (k : ℕ) (front left : List Lexeme) → ts ≡ front ++ left → On (P' (suc k)) front left → On (P (suc k)) front left
   on_down k front [] e o = o
   on_down k front (t ∷ left) e o = pd (suc k) (front ++ t ∷ []) left (e ∙ sym (append_assoc front (t ∷ []) left)) o
+
   on_up : (k : ℕ) (front left : List Lexeme) → On (P (suc k)) front left → On (P' (suc k)) front left
   on_up k front [] o = o
   on_up k front (t ∷ left) o = pu (suc k) (front ++ t ∷ []) o
 
 -- the value by a function
 valued : {A B : Type 0} (f : A → B) (S : List Lexeme → A → Type 0) (P : ℕ → List Lexeme → Type 0) (ts : List Lexeme) (r : Read A)
-  → Exact S P ts r → Exact (λ us v. (z : A) × S us z × (v ≡ f z)) P ts (r >>= λ z. Ok (f z.0, z.1))
+    → Exact S P ts r → Exact (λ us v. (z : A) × S us z × (v ≡ f z)) P ts (r >>= λ z. Ok (f z.0, z.1))
 valued f S P ts (Ok x) g = record { front = g.front; parts = g.parts; spelled = (x.0, g.spelled, refl); off = g.off }
 valued f S P ts (Err left) g = record { front = g.front; parts = g.parts; begun = g.begun; off = g.off; open_end = λ e v h. g.open_end e h.0 h.1; reason = g.reason }
 
@@ -234,6 +239,7 @@ token_exact ks (t ∷ ts) = by_kind (has ks t.kind) refl where
   off_of : (k : ℕ) (us : List Lexeme) → Off (BeginsBy k (token ks)) (t ∷ []) us
   off_of k [] = tt
   off_of k (u ∷ us) = λ h. token_past ks t u h
+
   by_kind : (b : Bool) → has ks t.kind ≡ b → Exact (Spells (token ks)) (λ k. BeginsBy k (token ks)) (t ∷ ts) (cond b (Ok (t, ts)) (Err (t ∷ ts, 0)))
   by_kind true e = record { front = t ∷ []; parts = refl; spelled = (refl, e); off = λ k. off_of k ts }
   by_kind false e = record { front = []; parts = refl; begun = inl refl; off = λ h. token_other ks t e h; open_end = λ k v h. let bad = h.0 in absurd cc; reason = record { only = λ k o. absurd (token_other ks t e o); so = λ k n. absurd cc } }
@@ -244,19 +250,22 @@ refused_exact A j ks (t ∷ ts) = by_kind (has ks t.kind) refl where
   zero_off : ((t ∷ [] ≡ []) ⊎ ((w : Lexeme) × (t ∷ [] ≡ w ∷ []) × (has ks w.kind ≡ true) × (0 ≡ suc j))) → ⊥
   zero_off (inl e) = absurd cc
   zero_off (inr h) = let bad = h.3 in absurd cc
+
   only_j : (k : ℕ) → ((t ∷ [] ≡ []) ⊎ ((w : Lexeme) × (t ∷ [] ≡ w ∷ []) × (has ks w.kind ≡ true) × (suc k ≡ suc j))) → suc j ≡ suc k
   only_j k (inl e) = absurd cc
   only_j k (inr h) = sym h.3
+
   none_so : (k : ℕ) → has ks t.kind ≡ false → ((t ∷ [] ≡ []) ⊎ ((w : Lexeme) × (t ∷ [] ≡ w ∷ []) × (has ks w.kind ≡ true) × (suc k ≡ suc j))) → ⊥
   none_so k off (inl e) = absurd cc
   none_so k off (inr h) = token_other ks t off (inr (h.0, h.1, h.2))
+
   by_kind : (b : Bool) → has ks t.kind ≡ b → Exact (Spells (refused {A = A} j ks)) (λ k. BeginsBy k (refused {A = A} j ks)) (t ∷ ts) (cond {A = Read A} b (Err (t ∷ ts, suc j)) (Err (t ∷ ts, 0)))
   by_kind true e = record { front = []; parts = refl; begun = inl refl; off = λ h. zero_off h; open_end = λ k v h. absurd h; reason = record { only = λ k o. only_j k o; so = λ k n. inr (t, refl, e, sym n) } }
   by_kind false e = record { front = []; parts = refl; begun = inl refl; off = λ h. zero_off h; open_end = λ k v h. absurd h; reason = record { only = λ k o. absurd (none_so k e o); so = λ k n. absurd cc } }
 
 -- a part, and then another that the value decides
 module _ {A B C : Type 0} (a : Grammar A) (S : A → List Lexeme → B → Type 0) (P : ℕ → A → List Lexeme → Type 0) (f : A → B → C) (b : (k : ℕ) (x : A) → Laws (S x) (P k x)) (ts : List Lexeme)
-  (ea : Exact (Spells a) (λ k. BeginsBy k a) ts (reading a ts)) (ag : Again (Spells a) P ts (reading a ts)) (rb : A × List Lexeme → Read B) (eb : (x : A × List Lexeme) → reading a ts ≡ Ok x → Exact (S x.0) (λ k. P k x.0) x.1 (rb x)) where
+    (ea : Exact (Spells a) (λ k. BeginsBy k a) ts (reading a ts)) (ag : Again (Spells a) P ts (reading a ts)) (rb : A × List Lexeme → Read B) (eb : (x : A × List Lexeme) → reading a ts ≡ Ok x → Exact (S x.0) (λ k. P k x.0) x.1 (rb x)) where
   then_exact : Exact (Then (Spells a) S f) (λ k. ThenBegins (Spells a) (BeginsBy k a) (P k)) ts (reading a ts >>= λ x. rb x >>= λ y. Ok (f x.0 y.0, y.1))
   then_exact = of (reading a ts) ea ag eb where
     of : (r : Read A) → Exact (Spells a) (λ k. BeginsBy k a) ts r → Again (Spells a) P ts r → ((x : A × List Lexeme) → r ≡ Ok x → Exact (S x.0) (λ k. P k x.0) x.1 (rb x)) → Exact (Then (Spells a) S f) (λ k. ThenBegins (Spells a) (BeginsBy k a) (P k)) ts (r >>= λ x. rb x >>= λ y. Ok (f x.0 y.0, y.1))
@@ -264,46 +273,54 @@ module _ {A B C : Type 0} (a : Grammar A) (S : A → List Lexeme → B → Type 
     of (Err l) e g k = first_stops (Spells a) (λ k. BeginsBy k a) S P f (λ k. laws k a) b ts l.0 l.1 e g
 
 module _ {S A B : Type 0} (look : Look) (a : S → Grammar A) (step : S → A → S) (b : Grammar B) (after : Kinds) (tells : Tells look a step b after) (wide : (s : S) → may_be_empty (a s) ≡ false)
-  (ea : (s : S) (ts : List Lexeme) → Exact (Spells (a s)) (λ k. BeginsBy k (a s)) ts (reading (a s) ts)) (eb : (ts : List Lexeme) → Exact (Spells b) (λ k. BeginsBy k b) ts (reading b ts))
-  (ag : (s : S) (ts : List Lexeme) → Again (Spells (a s)) (λ k x. ManyBegins (λ s. Spells (a s)) step (λ s. BeginsBy k (a s)) (BeginsBy k b) (step s x)) ts (reading (a s) ts)) where
+    (ea : (s : S) (ts : List Lexeme) → Exact (Spells (a s)) (λ k. BeginsBy k (a s)) ts (reading (a s) ts)) (eb : (ts : List Lexeme) → Exact (Spells b) (λ k. BeginsBy k b) ts (reading b ts))
+    (ag : (s : S) (ts : List Lexeme) → Again (Spells (a s)) (λ k x. ManyBegins (λ s. Spells (a s)) step (λ s. BeginsBy k (a s)) (BeginsBy k b) (step s x)) ts (reading (a s) ts)) where
   abbrev V : S → List Lexeme → List A × B → Type 0
   V s = ManySpells (λ s. Spells (a s)) step (Spells b) s
+
   abbrev P : ℕ → S → List Lexeme → Type 0
   P k s = ManyBegins (λ s. Spells (a s)) step (λ s. BeginsBy k (a s)) (BeginsBy k b) s
 
   last_exact : (s : S) (ts : List Lexeme) → sees_one look ts ≡ false → Exact (V s) (λ k. P k s) ts (reading b ts >>= λ y. Ok (([], y.0), y.1))
   last_exact s ts dark = transfer (λ us v. (y : B) × Spells b us y × (v ≡ ([], y))) (V s) (λ k. BeginsBy k b) (λ k. P k s) ts (reading b ts >>= λ y. Ok (([], y.0), y.1))
-    (λ p v h. last h.0 h.1 h.2) (λ k p h. end h) (λ k p l e h. down k p l e h) (λ v h. back v h) (valued (λ y. ([], y)) (Spells b) (λ k. BeginsBy k b) ts (reading b ts) (eb ts)) where
-    down : (k : ℕ) (p l : List Lexeme) → ts ≡ p ++ l → ManyBegins (λ s. Spells (a s)) step (λ s. BeginsBy k (a s)) (BeginsBy k b) s p → BeginsBy k b p
-    down k p l e (piece h) = tells.unseen k s ts p l dark e (inl h)
-    down k p l e (end h) = h
-    down k p l e (later x front rest parts sp h) = tells.unseen k s ts p l dark e (inr (x, front, rest, parts, sp, h))
-    back : (v : List A × B) → ManySpells (λ s. Spells (a s)) step (Spells b) s ts v → (y : B) × Spells b ts y × (v ≡ ([], y))
-    back v (last y h e) = (y, h, e)
-    back v (more x z front rest parts sp h e) = absurd (not_both (sees_one look ts) (subst (λ (us : List Lexeme). sees_one look us ≡ true) (append-nil ts) (tells.at_piece s ts [] v (x, z, front, rest, parts, sp, h, e) tt)) dark)
+      (λ p v h. last h.0 h.1 h.2) (λ k p h. end h) (λ k p l e h. down k p l e h) (λ v h. back v h) (valued (λ y. ([], y)) (Spells b) (λ k. BeginsBy k b) ts (reading b ts) (eb ts)) where
+        down : (k : ℕ) (p l : List Lexeme) → ts ≡ p ++ l → ManyBegins (λ s. Spells (a s)) step (λ s. BeginsBy k (a s)) (BeginsBy k b) s p → BeginsBy k b p
+        down k p l e (piece h) = tells.unseen k s ts p l dark e (inl h)
+        down k p l e (end h) = h
+        down k p l e (later x front rest parts sp h) = tells.unseen k s ts p l dark e (inr (x, front, rest, parts, sp, h))
+
+        back : (v : List A × B) → ManySpells (λ s. Spells (a s)) step (Spells b) s ts v → (y : B) × Spells b ts y × (v ≡ ([], y))
+        back v (last y h e) = (y, h, e)
+        back v (more x z front rest parts sp h e) = absurd (not_both (sees_one look ts) (subst (λ (us : List Lexeme). sees_one look us ≡ true) (append-nil ts) (tells.at_piece s ts [] v (x, z, front, rest, parts, sp, h, e) tt)) dark)
 
   more_exact : (n : ℕ) → ((s : S) (ts : List Lexeme) → length ts ≤ n → Exact (V s) (λ k. P k s) ts (repeat n look (λ s. reading (a s)) step (reading b) s ts)) → (s : S) (ts : List Lexeme) → length ts ≤ suc n → Exact (V s) (λ k. P k s) ts (repeat (suc n) look (λ s. reading (a s)) step (reading b) s ts)
   more_exact n ih s ts le = by_look (sees_one look ts) refl where
     m_laws : (k : ℕ) (m : S) → Laws (V m) (P k m)
     m_laws k m = many_laws (λ s. Spells (a s)) step (λ s. BeginsBy k (a s)) (BeginsBy k b) (λ s. laws k (a s)) (Spells b) (laws k b) m
+
     piece_exact : Exact (PieceSpells a step b s) (λ k. PieceBegins k a step b s) ts (reading (a s) ts >>= λ x. repeat n look (λ s. reading (a s)) step (reading b) (step s x.0) x.1 >>= λ y. Ok ((x.0 ∷ y.0.0, y.0.1), y.1))
     piece_exact = then_exact (a s) (λ x. V (step s x)) (λ k x. P k (step s x)) (λ x z. (x ∷ z.0, z.1)) (λ k x. m_laws k (step s x)) ts (ea s ts) (ag s ts) (λ x. repeat n look (λ s. reading (a s)) step (reading b) (step s x.0) x.1)
-      (λ x e. ih (step s x.0) x.1 (let less = subst (λ (c : Bool). Shorter c ts x.1) (wide s) (shrinks (a s) ts x e) in omega (arith, le, less)))
+        (λ x e. ih (step s x.0) x.1 (let less = subst (λ (c : Bool). Shorter c ts x.1) (wide s) (shrinks (a s) ts x e) in omega (arith, le, less)))
+
     into_many : (p : List Lexeme) (v : List A × B) → PieceSpells a step b s p v → V s p v
     into_many p v h = more h.0 h.1 h.2 h.3 h.4 h.5 h.6 h.7
+
     begun_many : (k : ℕ) (p : List Lexeme) → PieceBegins k a step b s p → P k s p
     begun_many k p (inl h) = piece h
     begun_many k p (inr h) = later h.0 h.1 h.2 h.3 h.4 h.5
+
     down : sees_one look ts ≡ true → (k : ℕ) (p l : List Lexeme) → ts ≡ p ++ l → P k s p → PieceBegins k a step b s p
     down lit k p l e (piece h) = inl h
     down lit k p l e (end h) = tells.seen k s ts p l lit e h
     down lit k p l e (later x front rest parts sp h) = inr (x, front, rest, parts, sp, h)
+
     back : sees_one look ts ≡ true → (v : List A × B) → V s ts v → PieceSpells a step b s ts v
     back lit v (last y h e) = absurd (not_both (sees_one look ts) lit (subst (λ (us : List Lexeme). sees_one look us ≡ false) (append-nil ts) (tells.at_end ts [] y h tt)))
     back lit v (more x z front rest parts sp h e) = (x, z, front, rest, parts, sp, h, e)
+
     by_look : (c : Bool) → sees_one look ts ≡ c → Exact (V s) (λ k. P k s) ts (cond c (reading (a s) ts >>= λ x. repeat n look (λ s. reading (a s)) step (reading b) (step s x.0) x.1 >>= λ y. Ok ((x.0 ∷ y.0.0, y.0.1), y.1)) (reading b ts >>= λ y. Ok (([], y.0), y.1)))
     by_look true lit = transfer (PieceSpells a step b s) (V s) (λ k. PieceBegins k a step b s) (λ k. P k s) ts (reading (a s) ts >>= λ x. repeat n look (λ s. reading (a s)) step (reading b) (step s x.0) x.1 >>= λ y. Ok ((x.0 ∷ y.0.0, y.0.1), y.1))
-      (λ p v h. into_many p v h) (λ k p h. begun_many k p h) (λ k p l e h. down lit k p l e h) (λ v h. back lit v h) piece_exact
+        (λ p v h. into_many p v h) (λ k p h. begun_many k p h) (λ k p l e h. down lit k p l e h) (λ v h. back lit v h) piece_exact
     by_look false dark = last_exact s ts dark
 
   many_exact : (n : ℕ) (s : S) (ts : List Lexeme) → length ts ≤ n → Exact (V s) (λ k. P k s) ts (repeat n look (λ s. reading (a s)) step (reading b) s ts)
@@ -319,12 +336,15 @@ either_left a b after s [] lit r e = absurd cc
 either_left a b after s (t ∷ ts) lit r e = transfer (Spells a) (Spells (either a b)) (λ k. BeginsBy k a) (λ k. BeginsBy k (either a b)) (t ∷ ts) r (λ p v h. inl h) (λ k p h. inl h) (λ k p l m h. down k p l m h) (λ v h. back v h) e where
   is_a : has (first a) t.kind ≡ true
   is_a = (and_parts (has (first a) t.kind) true lit).0
+
   not_b : (k : ℕ) (us : List Lexeme) → BeginsBy k b (t ∷ us) → ⊥
   not_b k us h = apart (first a) (next b after) t.kind s.3 is_a (into (may_be_empty b) (first b) after t.kind (starts k b after s.1 t us h))
+
   down : (k : ℕ) (p l : List Lexeme) → t ∷ ts ≡ p ++ l → BeginsBy k a p ⊎ BeginsBy k b p → BeginsBy k a p
   down k p l m (inl h) = h
   down k [] l m (inr h) = (laws k a).empty
   down k (u ∷ p) l m (inr h) = absurd (let same : u ≡ t = cc in not_b k p (subst (λ (w : Lexeme). BeginsBy k b (w ∷ p)) same h))
+
   back : (v : _) → Spells a (t ∷ ts) v ⊎ Spells b (t ∷ ts) v → Spells a (t ∷ ts) v
   back v (inl h) = h
   back v (inr h) = absurd (not_b 0 ts ((laws 0 b).begun (t ∷ ts) v h))
@@ -333,11 +353,13 @@ either_right : {A : Type 0} (a b : Grammar A) (after : Kinds) → Sure (either a
 either_right {A} a b after s ts dark r e = transfer (Spells b) (Spells (either a b)) (λ k. BeginsBy k b) (λ k. BeginsBy k (either a b)) ts r (λ p v h. inr h) (λ k p h. inr h) (λ k p l m h. down k ts p l dark m h) (λ v h. back ts v dark h) e where
   not_a : (k : ℕ) (t : Lexeme) (ts us : List Lexeme) → sees (first a ∷ []) (t ∷ ts) ≡ false → BeginsBy k a (t ∷ us) → ⊥
   not_a k t ts us d h = not_both (sees (first a ∷ []) (t ∷ ts)) (seen_by (first a) t ts (starts k a after s.0 t us h)) d
+
   down : (k : ℕ) (ts p l : List Lexeme) → sees (first a ∷ []) ts ≡ false → ts ≡ p ++ l → BeginsBy k a p ⊎ BeginsBy k b p → BeginsBy k b p
   down k ts p l d m (inr h) = h
   down k ts [] l d m (inl h) = (laws k b).empty
   down k [] (u ∷ p) l d m (inl h) = absurd cc
   down k (t ∷ ts) (u ∷ p) l d m (inl h) = absurd (let same : u ≡ t = cc in not_a k t ts p d (subst (λ (w : Lexeme). BeginsBy k a (w ∷ p)) same h))
+
   back : (ts : List Lexeme) (v : A) → sees (first a ∷ []) ts ≡ false → Spells a ts v ⊎ Spells b ts v → Spells b ts v
   back ts v d (inr h) = h
   back ts v d (inl h) = absurd (not_both (sees (first a ∷ []) ts) (subst (λ (us : List Lexeme). sees (first a ∷ []) us ≡ true) (append-nil ts) (spelled_seen a after s.0 s.2 ts [] v h)) d)
@@ -359,15 +381,14 @@ exact {A} (refused j ks) after s ts = refused_exact A j ks ts
 exact (both f a b) after s ts = then_exact a (λ x. Spells b) (λ k x. BeginsBy k b) f (λ k x. laws k b) ts (exact a (next b after) s.0 ts) (again_at a b after s.0 s.1 ts) (λ x. reading b x.1) (λ x e. exact b after s.1 x.1)
 exact {A} (either a b) after s ts = either_exact a b after s ts (exact a after s.0 ts) (exact b after s.1 ts)
 exact (many f look a step m b) after s ts = valued (λ z. f z.0 z.1) (ManySpells (λ s. Spells (a s)) step (Spells b) m) (λ k. ManyBegins (λ s. Spells (a s)) step (λ s. BeginsBy k (a s)) (BeginsBy k b) m) ts (repeat (length ts) look (λ s. reading (a s)) step (reading b) m ts)
-  (many_exact look a step b after s.4 s.2 (λ t ts. exact (a t) (first (a m) ++ next b after) (s.0 t) ts) (λ ts. exact b after s.3 ts)
+    (many_exact look a step b after s.4 s.2 (λ t ts. exact (a t) (first (a m) ++ next b after) (s.0 t) ts) (λ ts. exact b after s.3 ts)
     (λ t ts k x xs rest e h n. ap (reading (a t)) e ∙ again (a t) (first (a m) ++ next b after) (s.0 t) xs rest x h (meets_many look a step b (first (a m)) after s.0 s.1 s.2 s.3 k (step t x) rest n)) (length ts) m ts (omega arith))
 exact (given f a b) after s ts = then_exact a (λ x. Spells (b x)) (λ k x. BeginsBy k (b x)) f (λ k x. laws k (b x)) ts (exact a [] s.0 ts)
-  (λ k x xs rest e h m. ap (reading a) e ∙ again a (next (b x) after) (s.1 x).0 xs rest x h (meets_follow k (b x) after (s.1 x).1 rest m)) (λ x. reading (b x.0) x.1) (λ x e. exact (b x.0) after (s.1 x.0).1 x.1)
-
+    (λ k x xs rest e h m. ap (reading a) e ∙ again a (next (b x) after) (s.1 x).0 xs rest x h (meets_follow k (b x) after (s.1 x).1 rest m)) (λ x. reading (b x.0) x.1) (λ x e. exact (b x.0) after (s.1 x.0).1 x.1)
 
 -- One token in front tells, where no token begins both a piece and what may come after the pieces.
 module _ {S A B : Type 0} (a : S → Grammar A) (step : S → A → S) (b : Grammar B) (ks after : Kinds)
-  (sa : (s : S) → Sure (a s) (ks ++ next b after)) (fs : (s : S) → first (a s) ≡ ks) (w : (s : S) → may_be_empty (a s) ≡ false) (sb : Sure b after) (d : disjoint ks (next b after) ≡ true) where
+    (sa : (s : S) → Sure (a s) (ks ++ next b after)) (fs : (s : S) → first (a s) ≡ ks) (w : (s : S) → may_be_empty (a s) ≡ false) (sb : Sure b after) (d : disjoint ks (next b after) ≡ true) where
   in_b : (k : ℕ) (t : Lexeme) (us : List Lexeme) → BeginsBy k b (t ∷ us) → has (next b after) t.kind ≡ true
   in_b k t us h = into (may_be_empty b) (first b) after t.kind (starts k b after sb t us h)
 

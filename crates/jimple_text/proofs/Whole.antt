@@ -34,9 +34,11 @@ stops_in g s ts left why e = let h = exact_of g s ts (Err (left, why)) e in reco
   refused_of : (l front : List Lexeme) → Off (Begins g) front l → (l ≡ [] → (v : _) → Spells g front v → ⊥) → Refused g front l
   refused_of [] front off n = n refl
   refused_of (t ∷ l) front off n = off
+
   on_of : (l front : List Lexeme) (k : ℕ) → Reaches (suc k) g front l → On (BeginsBy (suc k) g) front l
   on_of [] front k o = o
   on_of (t ∷ l) front k o = o
+
   of_on : (l front : List Lexeme) (k : ℕ) → On (BeginsBy (suc k) g) front l → Reaches (suc k) g front l
   of_on [] front k o = o
   of_on (t ∷ l) front k o = o

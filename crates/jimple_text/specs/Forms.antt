@@ -56,7 +56,7 @@ params = either several_types (nothing [])
 -- sig = "<" name ":" type anyname "(" [types] ")" ">"
 unfoldable pub sig : Grammar RawSig
 sig = nothing (λ class result name params. record { class = class; result = result; name = name; params = params })
-  <* sign kinds.Less <*> name <* sign kinds.Colon <*> ty <*> any_name <* sign kinds.OpenParen <*> params <* sign kinds.CloseParen <* sign kinds.Greater
+    <* sign kinds.Less <*> name <* sign kinds.Colon <*> ty <*> any_name <* sign kinds.OpenParen <*> params <* sign kinds.CloseParen <* sign kinds.Greater
 
 -- imm = local | number
 unfoldable pub imm : Grammar RawImm
@@ -73,7 +73,7 @@ args (suc n) = both (λ x xs. x ∷ xs) imm (times n next_imm)
 -- call = "staticinvoke" sig "(" [imms] ")", with as many arguments as the signature has parameters
 unfoldable pub call : Grammar RawCall
 call = given (λ sig args. record { sig = sig; args = args }) (sign kinds.Staticinvoke *> sig)
-  (λ sig. sign kinds.OpenParen *> args (length sig.params) <* sign kinds.CloseParen)
+    (λ sig. sign kinds.OpenParen *> args (length sig.params) <* sign kinds.CloseParen)
 
 -- rhs = imm | call
 unfoldable pub rhs : Grammar RawRhs
@@ -126,9 +126,9 @@ body = plain bodied before_decl decl stmts
 -- method = "public" "static" "void" name "(" ")" "{" body "}"
 unfoldable pub method : Grammar RawMethod
 method = nothing (λ name body. record { name = name; body = body }) <* sign kinds.Public <* sign kinds.Static <* sign kinds.Void <*> name
-  <* sign kinds.OpenParen <* sign kinds.CloseParen <* sign kinds.OpenBrace <*> body <* sign kinds.CloseBrace
+    <* sign kinds.OpenParen <* sign kinds.CloseParen <* sign kinds.OpenBrace <*> body <* sign kinds.CloseBrace
 
 -- file = "public" "class" name "extends" name "{" method "}"
 unfoldable pub file : Grammar RawClass
 file = nothing (λ name superclass method. record { name = name; superclass = superclass; method = method }) <* sign kinds.Public <* sign kinds.Class <*> name
-  <* sign kinds.Extends <*> name <* sign kinds.OpenBrace <*> method <* sign kinds.CloseBrace
+    <* sign kinds.Extends <*> name <* sign kinds.OpenBrace <*> method <* sign kinds.CloseBrace

@@ -67,7 +67,7 @@ find_all f (x ∷ xs) = f x >? λ y. find_all f xs >? λ ys. Some (y ∷ ys)
 
 abbrev pub find_call : List ℕ → List ℕ → List Local → RawCall → Option Invoke
 find_call bytes own ls raw = if bytes_eq (text bytes raw.sig.class) own || nat_lt 255 (length raw.args) then None
-  else find_all (find_imm bytes ls) raw.args >? λ args. Some (call_to (sig_of bytes raw.sig) args)
+    else find_all (find_imm bytes ls) raw.args >? λ args. Some (call_to (sig_of bytes raw.sig) args)
 
 abbrev pub find_rhs : List ℕ → List ℕ → List Local → RawRhs → Option Rhs
 find_rhs bytes own ls (raw_sides.Use x) = find_imm bytes ls x >? λ y. Some (sides.Use y)

@@ -106,7 +106,8 @@ impl<'a> Cursor<'a> {
         ensures { result ≡ sees_one before_decl self.now.left.now }
     {
         match self.left {
-            [front, behind, ..] => front.kind.is_primitive() || (front.kind.is_name() && behind.kind.is_name()),
+            [front, behind, ..] => front.kind.is_primitive()
+                || (front.kind.is_name() && behind.kind.is_name()),
             [front] => front.kind.is_primitive(),
             [] => false,
         }

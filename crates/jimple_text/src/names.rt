@@ -53,7 +53,12 @@ fn local(alloc: Global, bytes: &[u8], ty: Lexeme, token: Lexeme) -> Result<Local
     Ok(Local { ty, name })
 }
 
-fn declare(alloc: Global, bytes: &[u8], decl: &RawDecl, locals: &mut Vec<Local>) -> Result<(), AllocError>
+fn declare(
+    alloc: Global,
+    bytes: &[u8],
+    decl: &RawDecl,
+    locals: &mut Vec<Local>,
+) -> Result<(), AllocError>
     ensures { OnOk result (locals.new.items ≡ locals.old.items ++ locals_of bytes.now decl.now) }
 {
     for token in decl.names.as_slice() {

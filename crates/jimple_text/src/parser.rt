@@ -141,7 +141,10 @@ impl<'a> Cursor<'a> {
         self.take(Kind::OpenParen)?;
         let args = self.args(alloc, sig.params.as_slice().len())?;
         self.take(Kind::CloseParen)?;
-        Ok(RawCall { sig, args: Seq::from_vec(args) })
+        Ok(RawCall {
+            sig,
+            args: Seq::from_vec(args),
+        })
     }
 
     fn sees_imm(&self) -> bool
@@ -221,7 +224,10 @@ impl<'a> Cursor<'a> {
         let ty = self.take_type()?;
         let names = self.names(alloc)?;
         self.take(Kind::Semicolon)?;
-        Ok(RawDecl { ty, names: Seq::from_vec(names) })
+        Ok(RawDecl {
+            ty,
+            names: Seq::from_vec(names),
+        })
     }
 
     #[tactic(auto, unfolding(crate::specs::Forms::body))]

@@ -23,7 +23,13 @@ const MOST_LOCALS: usize = 65_535;
 const MOST_STATEMENTS: usize = 4_194_304;
 
 /// The statements over these locals, and the return behind them.
-fn statements(alloc: Global, bytes: &[u8], own: &[u8], locals: &[Local], raw: &[RawStmt]) -> Result<Vec<Stmt>, BuildStop>
+fn statements(
+    alloc: Global,
+    bytes: &[u8],
+    own: &[u8],
+    locals: &[Local],
+    raw: &[RawStmt],
+) -> Result<Vec<Stmt>, BuildStop>
     requires { length locals.now < 2 ^ 16 }
     ensures distinct { OnOk result (Distinct locals.now) }
     ensures ok { IfOk result (λ v. (ss : List Stmt) × Each (StmtIs bytes.now own.now locals.now) raw.now ss × (v.items ≡ ss ++ stmts_are.Return None ∷ [])) }

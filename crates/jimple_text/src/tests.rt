@@ -9,6 +9,7 @@ use std::test::Fail;
 
 /// The body between these is a text of its own.
 const HEAD: &[u8] = b"public class A extends java.lang.Object { public static void m() {";
+
 const FOOT: &[u8] = b"return; } }";
 
 /// Bodies that aren't built.
@@ -163,7 +164,13 @@ fn made(alloc: Global) -> Result<Class, AllocError> {
     let mut args = Vec::new(alloc);
     args.push(Imm::Literal(name(alloc, "1")?))?;
     args.push(Imm::Literal(name(alloc, "2")?))?;
-    let make = call(alloc, "void", "<init>", Seq::from_vec(params), Seq::from_vec(args))?;
+    let make = call(
+        alloc,
+        "void",
+        "<init>",
+        Seq::from_vec(params),
+        Seq::from_vec(args),
+    )?;
     let mut stmts = Vec::new(alloc);
     stmts.push(Stmt::Call(make))?;
     stmts.push(Stmt::Return(None))?;
@@ -183,11 +190,20 @@ fn reads(alloc: Global, body: &[u8], wanted: &Class) -> Result<bool, Fail> {
 fn trees_of_texts(rt: HostRuntime) -> Result<(), Fail> {
     let alloc = rt.alloc();
     let leak = b"int i0; i0 = staticinvoke <S: int src()>(); staticinvoke <S: void snk(int)>(i0);";
-    assert!(rt; reads(alloc, leak.as_slice(), &smallest(alloc)?)?, "the smallest leak");
+    assert!(rt;
+        reads(alloc, leak.as_slice(), &smallest(alloc)?)?,
+        "the smallest leak"
+    );
     let values = b"int i0,i1 ;\n a.B b;\r\n\ti1 = 0120; b = i1;";
-    assert!(rt; reads(alloc, values.as_slice(), &literals(alloc)?)?, "literals");
+    assert!(rt;
+        reads(alloc, values.as_slice(), &literals(alloc)?)?,
+        "literals"
+    );
     let make = b"staticinvoke <S: void <init>(long,T)>(1, 2);";
-    assert!(rt; reads(alloc, make.as_slice(), &made(alloc)?)?, "two arguments");
+    assert!(rt;
+        reads(alloc, make.as_slice(), &made(alloc)?)?,
+        "two arguments"
+    );
     Ok(())
 }
 

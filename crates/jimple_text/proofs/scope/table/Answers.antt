@@ -26,7 +26,7 @@ loop-number-preserved c =
     let more = one_more c.args.locals.now n l less c.index-locals-number.is in
     record {
       numbers = λ q. subst (λ (ms : List Local). get (λ x y. pointwise nat_eq x.now y.now) c.insert.new.self q ≡ number_of ms q.now) (sym more)
-        (step (take n c.args.locals.now) l (get (λ x y. pointwise nat_eq x.now y.now) c.loop-number.numbers q) (get (λ x y. pointwise nat_eq x.now y.now) c.insert.new.self q) q.now n (c.loop-number.invariant.numbers q) new at
+          (step (take n c.args.locals.now) l (get (λ x y. pointwise nat_eq x.now y.now) c.loop-number.numbers q) (get (λ x y. pointwise nat_eq x.now y.now) c.insert.new.self q) q.now n (c.loop-number.invariant.numbers q) new at
           (subst (λ (t : List ℕ). get (λ x y. pointwise nat_eq x.now y.now) c.insert.new.self q ≡ cond (bytes_eq t q.now) (Some n) (get (λ x y. pointwise nat_eq x.now y.now) c.loop-number.numbers q)) c.bytes.ensures (c.in_ok-insert.ensures.updates.0 q)));
       distinct = subst Distinct (sym more) (distinct_push (take n c.args.locals.now) l c.loop-number.invariant.distinct new);
     }

@@ -28,7 +28,7 @@ unfolding several_names
 returns-in_err-next c =
     let p = err_from_is_err_and c.from_residual-in_err-next.result c.from_residual-in_err-next.ensures.1 in
     rw (p.1, p.2) (both_fails (λ x xs. x ∷ xs) name (others name) c.args.self.now.left.now c.take_name.new.self.left.now c.loop-self.invariant.front c.in_err-next.field-0.0 c.loop-self.invariant.first
-      (failed _ _ (sign kinds.Comma *> name) ends (reading (others name) c.take_name.new.self.left.now) c.loop-self.invariant.pieces c.loop-self.self.left.now c.in_err-next.field-0.0 c.loop-self.invariant.onward (sym c.loop-self-test.ensures) refl c.in_err-next.ensures))
+    (failed _ _ (sign kinds.Comma *> name) ends (reading (others name) c.take_name.new.self.left.now) c.loop-self.invariant.pieces c.loop-self.self.left.now c.in_err-next.field-0.0 c.loop-self.invariant.onward (sym c.loop-self-test.ensures) refl c.in_err-next.ensures))
 
 pub returns : goal.returns
 unfolding several_names

@@ -28,7 +28,7 @@ unfolding several_types
 returns-in_err-next c =
     let p = err_from_is_err_and c.from_residual-in_err-next.result c.from_residual-in_err-next.ensures.1 in
     rw (p.1, p.2) (both_fails (λ x xs. x ∷ xs) ty (others ty) c.args.self.now.left.now c.take_type.new.self.left.now c.loop-self.invariant.front c.in_err-next.field-0.0 c.loop-self.invariant.first
-      (failed _ _ (sign kinds.Comma *> ty) ends (reading (others ty) c.take_type.new.self.left.now) c.loop-self.invariant.pieces c.loop-self.self.left.now c.in_err-next.field-0.0 c.loop-self.invariant.onward (sym c.loop-self-test.ensures) refl c.in_err-next.ensures))
+    (failed _ _ (sign kinds.Comma *> ty) ends (reading (others ty) c.take_type.new.self.left.now) c.loop-self.invariant.pieces c.loop-self.self.left.now c.in_err-next.field-0.0 c.loop-self.invariant.onward (sym c.loop-self-test.ensures) refl c.in_err-next.ensures))
 
 pub returns : goal.returns
 unfolding several_types
