@@ -112,10 +112,6 @@ some_of : (r : Option ℕ) → is_some r ≡ true → (n : ℕ) × (r ≡ Some n
 some_of None e = absurd cc
 some_of (Some n) e = (n, refl)
 
-pub none_of : (r : Option ℕ) → is_some r ≡ false → r ≡ None
-none_of None e = refl
-none_of (Some n) e = absurd cc
-
 pub double : (ls : List Local) (i : ℕ) (l : Local) (r : Option ℕ) → i < length ls → l ≡ get_or ls i l → r ≡ number_of (take i ls) l.name → is_some r ≡ true → Distinct ls → ⊥
 double ls i l r less is e s d =
     let n = some_of r s in

@@ -1,8 +1,9 @@
 // What names stand for inside a body. The raw tree stands below; the pass over names above.
-ghost use Rattle.std.specs.Prelude.{◌≡◌, ◌≤◌, ◌<◌, ◌^◌, List, ℕ, length, nat_eq, IfOk, IfErr, OnOk, Option};
+ghost use Rattle.std.specs.Prelude.{true, cond, is_some, ◌≡◌, ◌≤◌, ◌<◌, ◌^◌, List, ℕ, length, nat_eq, IfOk, IfErr, OnOk, Option, Some, None};
 ghost use Rattle.std.specs.Borrow.{Bor};
 ghost use Rattle.std.specs.Cmp.Lexicographic.{pointwise};
 ghost use Rattle.std.specs.HashMap.{get};
+ghost use Rattle.std.specs.Str.{bytes_eq};
 ghost use Rattle.jimple_text.specs.Names.{Distinct};
 ghost use Rattle.jimple_text.specs.Resolving.{number_of, Refuses};
 
@@ -19,6 +20,22 @@ pub struct Scope<'a> {
     ghost numbered: { (q : Bor (List ℕ)) → get (λ x y. pointwise nat_eq x.now y.now) numbers q ≡ number_of locals.now q.now },
 }
 
+/// Gives the name its number, where it has none yet.
+fn add<'a>(
+    numbers: &mut HashMap<&'a [u8], u16>,
+    name: &'a [u8],
+    number: u16,
+) -> Result<(), BuildStop>
+    ensures new { OnOk result (get (λ x y. pointwise nat_eq x.now y.now) numbers.old name.entry ≡ None) }
+    ensures more { OnOk result ((q : Bor (List ℕ)) → get (λ x y. pointwise nat_eq x.now y.now) numbers.new q ≡ cond (bytes_eq name.now q.now) (Some number) (get (λ x y. pointwise nat_eq x.now y.now) numbers.old q)) }
+    ensures err { IfErr result (Refuses (is_some (get (λ x y. pointwise nat_eq x.now y.now) numbers.old name.entry) ≡ true)) }
+{
+    match numbers.insert(name, number)? {
+        None => Ok(()),
+        Some(_) => Err(BuildStop::NotBuilt),
+    }
+}
+
 /// The number of each local by its name, where no two have one name.
 fn table<'a>(alloc: Global, locals: &'a [Local]) -> Result<HashMap<&'a [u8], u16>, BuildStop>
     requires { length locals.now < 2 ^ 16 }
@@ -28,9 +45,7 @@ fn table<'a>(alloc: Global, locals: &'a [Local]) -> Result<HashMap<&'a [u8], u16
 {
     let mut numbers = HashMap::new(alloc);
     for (number, local) in locals.iter().enumerate() {
-        if numbers.insert(local.name.bytes(), number as u16)?.is_some() {
-            return Err(BuildStop::NotBuilt);
-        }
+        add(&mut numbers, local.name.bytes(), number as u16)?;
     }
     Ok(numbers)
 }

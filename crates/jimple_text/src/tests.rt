@@ -177,9 +177,18 @@ fn made(alloc: Global) -> Result<Class, AllocError> {
     class(alloc, Vec::new(alloc), stmts)
 }
 
+/// Reads file 7.
+fn read(alloc: Global, text: &[u8]) -> Result<Vec<Class>, Stop> {
+    if text.len() < 4_294_967_296 {
+        read_classes(alloc, text, 7)
+    } else {
+        Err(Stop::OutOfMemory)
+    }
+}
+
 fn reads(alloc: Global, body: &[u8], wanted: &Class) -> Result<bool, Fail> {
     let text = joined(alloc, body)?;
-    let classes = read_classes(alloc, text.as_slice(), 0)?;
+    let classes = read(alloc, text.as_slice())?;
     Ok(match classes.as_slice() {
         [class] => class == wanted,
         _ => false,
@@ -208,7 +217,7 @@ fn trees_of_texts(rt: HostRuntime) -> Result<(), Fail> {
 }
 
 fn is_refused(alloc: Global, text: &[u8]) -> bool {
-    match read_classes(alloc, text, 7) {
+    match read(alloc, text) {
         Err(Stop::Fault(fault)) => fault == InputFault::NotYet { file: 7 },
         _ => false,
     }
