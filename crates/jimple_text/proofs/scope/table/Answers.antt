@@ -1,5 +1,4 @@
-use Rattle.std.proofs.Common.{rules, arith, ◌≡◌, ◌≤◌, ◌<◌, List, ℕ, length, nat_eq, Option, Some, None, ◌+◌, Bool, true, false, cond, [], ◌∷◌, ◌++◌, take, drop, sym, ◌∙◌, ap, subst}
-use Rattle.std.specs.Borrow.{Bor}
+use Rattle.std.proofs.Common.{rules, arith, ◌≡◌, ◌<◌, List, ℕ, length, nat_eq, Some, None, cond, take, sym, ◌∙◌, ap, subst}
 use Rattle.std.specs.Str.{bytes_eq}
 use Rattle.std.specs.Cmp.Lexicographic.{pointwise}
 use Rattle.std.specs.HashMap.{get}
@@ -31,7 +30,7 @@ loop-number-preserved c =
     let more = one_more c.args.locals.now n l less c.index-locals-number.is in
     record {
       numbers = λ q. subst (λ (ms : List Local). get (λ x y. pointwise nat_eq x.now y.now) c.add.new.numbers q ≡ number_of ms q.now) (sym more)
-        (step (take n c.args.locals.now) l (get (λ x y. pointwise nat_eq x.now y.now) c.loop-number.numbers q) (get (λ x y. pointwise nat_eq x.now y.now) c.add.new.numbers q) q.now n (c.loop-number.invariant.numbers q) new at
+          (step (take n c.args.locals.now) l (get (λ x y. pointwise nat_eq x.now y.now) c.loop-number.numbers q) (get (λ x y. pointwise nat_eq x.now y.now) c.add.new.numbers q) q.now n (c.loop-number.invariant.numbers q) new at
           (subst (λ (t : List ℕ). get (λ x y. pointwise nat_eq x.now y.now) c.add.new.numbers q ≡ cond (bytes_eq t q.now) (Some n) (get (λ x y. pointwise nat_eq x.now y.now) c.loop-number.numbers q)) c.bytes.ensures (c.in_ok-add.ensures.more q)));
       distinct = subst Distinct (sym more) (distinct_push (take n c.args.locals.now) l c.loop-number.invariant.distinct new);
     }
