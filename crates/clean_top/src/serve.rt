@@ -43,7 +43,8 @@ fn write_out<K: Sink>(out: &mut K, report: &Report) -> Status
 
 // Reads the files, and writes their report.
 fn serve<S: Shelf, K: Sink>(alloc: Global, asked: &Words<'_>, shelf: &mut S, out: &mut K) -> Status
-    ensures { Serves (record { holds = S.holds shelf.old; before = S.faults shelf.old; now = S.faults shelf.new; old = K.taken out.old; new = K.taken out.new; first = K.faults out.old; last = K.faults out.new }) (told asked.now) result }
+    ensures serves { Serves (record { holds = S.holds shelf.old; before = S.faults shelf.old; now = S.faults shelf.new; old = K.taken out.old; new = K.taken out.new; first = K.faults out.old; last = K.faults out.new }) (told asked.now) result }
+    ensures same { (name : List ℕ) → S.holds shelf.new name ≡ S.holds shelf.old name }
 {
     let class = match read_all(alloc, shelf, asked.file, CLASS_ROOM) {
         Ok(class) => class,
@@ -64,6 +65,7 @@ fn serve<S: Shelf, K: Sink>(alloc: Global, asked: &Words<'_>, shelf: &mut S, out
 fn answer<S: Shelf, K: Sink>(alloc: Global, words: &[Word], shelf: &mut S, out: &mut K) -> Status
     ensures serves { (asked : Asked) → Asks words.now asked → Serves (record { holds = S.holds shelf.old; before = S.faults shelf.old; now = S.faults shelf.new; old = K.taken out.old; new = K.taken out.new; first = K.faults out.old; last = K.faults out.new }) asked result }
     ensures usage { IsUsage words.now → IsRefused (K.taken out.old) (K.taken out.new) result }
+    ensures same { (name : List ℕ) → S.holds shelf.new name ≡ S.holds shelf.old name }
 {
     match parse(alloc, words) {
         Ok(Some(asked)) => serve(alloc, &asked, shelf, out),
@@ -86,6 +88,9 @@ pub fn clean_plain<S: Shelf, K: Sink, E: Sink>(
     // What was asked for is served: the status says so much and no more, and no other may come.
     ensures serves { (asked : Asked) → Asks words.now asked → Serves (record { holds = S.holds shelf.old; before = S.faults shelf.old; now = S.faults shelf.new; old = K.taken out.old; new = K.taken out.new; first = K.faults out.old; last = K.faults out.new }) asked result }
     ensures usage { IsUsage words.now → IsRefused (K.taken out.old) (K.taken out.new) result }
+
+    // The shelf holds what it held, so a second call on these words means the same.
+    ensures same { (name : List ℕ) → S.holds shelf.new name ≡ S.holds shelf.old name }
 
     // The error sink takes the line of the status, and nothing else.
     ensures line { Complains words.now (E.taken err.old) (E.taken err.new) (E.faults err.old) (E.faults err.new) result }

@@ -112,63 +112,52 @@ fn smallest_leak(rt: HostRuntime) -> Result<(), Fail> {
 }
 
 #[test]
-fn straight_bodies(rt: HostRuntime) -> Result<(), Fail> {
-    // The body, the output and the code.
+fn worked_rows(rt: HostRuntime) -> Result<(), Fail> {
+    let bad_list = "<S: int src()> => _SOURCE_\n";
+    let usage =
+        "clean: usage: clean check, main, graph, serial, replay, solve or big, with its options and files\n";
+    let unbuilt = "clean: A.jimple: form not built yet\n";
+    // The body, the list, the entry, the output, the line on the error sink, and the code.
     let cases = [
-        ("return;", "edges 1\ncontexts 1\n", 0),
+        (
+            "return;",
+            LIST,
+            "<A: void m()>",
+            "edges 1\ncontexts 1\n",
+            "",
+            0,
+        ),
         (
             "int i0; i0 = staticinvoke <S: int src()>(); i0 = 0; staticinvoke <S: void snk(int)>(i0); return;",
+            LIST,
+            "<A: void m()>",
             "edges 5\ncontexts 1\n",
+            "",
             0,
         ),
         (
             "int i0, i1; i0 = staticinvoke <S: int src()>(); i1 = i0; staticinvoke <S: void snk(int)>(i1); return;",
+            LIST,
+            "<A: void m()>",
             "leak <A: void m()>#2 from <A: void m()>#0 at i1\nedges 9\ncontexts 1\n",
+            "",
             1,
         ),
         (
             "int b, a; b = staticinvoke <S: int src()>(); b = b; a = staticinvoke <T: int f(int,int)>(b, 1); staticinvoke <S: void snk(int)>(b); staticinvoke <S: void snk(int)>(a); return;",
-            "leak <A: void m()>#3 from <A: void m()>#0 at b\nleak <A: void m()>#4 from <A: void m()>#0 at a\nedges 14\ncontexts 1\n",
-            1,
-        ),
-    ];
-    for (body, out, code) in cases {
-        let case = Case {
-            body,
-            list: LIST,
-            entry: "<A: void m()>",
-            out,
-            err: "",
-            code,
-        };
-        expect_case(&rt, rt.alloc(), &case)?;
-    }
-    Ok(())
-}
-
-#[test]
-fn refusals_in_their_order(rt: HostRuntime) -> Result<(), Fail> {
-    let bad_list = "<S: int src()> => _SOURCE_\n";
-    // The body, the list, the entry and the line.
-    let cases = [
-        (
-            "nop; return;",
             LIST,
             "<A: void m()>",
-            "clean: A.jimple: form not built yet\n",
-            3,
+            "leak <A: void m()>#3 from <A: void m()>#0 at b\nleak <A: void m()>#4 from <A: void m()>#0 at a\nedges 14\ncontexts 1\n",
+            "",
+            1,
         ),
-        (
-            "nop; return;",
-            bad_list,
-            "<A: void n()>",
-            "clean: A.jimple: form not built yet\n",
-            3,
-        ),
+        ("nop; return;", LIST, "<A: void m()>", "", unbuilt, 3),
+        ("nop; return;", bad_list, "<A: void n()>", "", unbuilt, 3),
         (
             "return;",
             bad_list,
             "<A: void n()>",
+            "",
             "clean: L: form not built yet\n",
             3,
         ),
@@ -176,23 +165,18 @@ fn refusals_in_their_order(rt: HostRuntime) -> Result<(), Fail> {
             "return;",
             LIST,
             "<A: void n()>",
+            "",
             "clean: entry method not found\n",
             3,
         ),
-        (
-            "return;",
-            LIST,
-            "<A: void m( )>",
-            "clean: usage: clean check, main, graph, serial, replay, solve or big, with its options and files\n",
-            2,
-        ),
+        ("return;", LIST, "<A: void m( )>", "", usage, 2),
     ];
-    for (body, list, entry, err, code) in cases {
+    for (body, list, entry, out, err, code) in cases {
         let case = Case {
             body,
             list,
             entry,
-            out: "",
+            out,
             err,
             code,
         };

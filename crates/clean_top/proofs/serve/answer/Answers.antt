@@ -16,7 +16,7 @@ returns-in-Ok-Some-clause-serves g c = λ asked asks.
       last = g.K.Sink.faults c.serve.new.out;
     } in
     let once = rw c.in-Ok-Some.field-0-is at c.in-Ok-Some.ensures.some in
-    subst (λ (a : Asked). Serves run a c.serve.result) (sym (once.1 asked asks)) c.serve.ensures
+    subst (λ (a : Asked). Serves run a c.serve.result) (sym (once.1 asked asks)) c.serve.ensures.serves
 
 pub returns-in-Ok-Some-clause-usage : goal.returns-in-Ok-Some-clause-usage
 returns-in-Ok-Some-clause-usage g c = λ usage.

@@ -5,8 +5,8 @@ use Rattle.clean_top.specs.Told.{told}
 use Rattle.clean_top.proofs.Served.{class_stops, list_stops, texts_stop, written}
 use Rattle.clean_top.proofs.serve.serve.Goals as goal
 
-pub returns-in-Err : goal.returns-in-Err
-returns-in-Err g c =
+pub returns-in-Err-clause-serves : goal.returns-in-Err-clause-serves
+returns-in-Err-clause-serves g c =
     let run : Run = record {
       holds = g.S.Shelf.holds c.args.shelf.now;
       before = g.S.Shelf.faults c.args.shelf.now;
@@ -19,8 +19,8 @@ returns-in-Err g c =
     let asked = told c.args.asked.now in
     rw c.of_read.ensures (class_stops run asked c.in-Err.stop refl c.in-Err.ensures.cause)
 
-pub returns-in-Err-read_all : goal.returns-in-Err-read_all
-returns-in-Err-read_all g c =
+pub returns-in-Err-read_all-clause-serves : goal.returns-in-Err-read_all-clause-serves
+returns-in-Err-read_all-clause-serves g c =
     let run : Run = record {
       holds = g.S.Shelf.holds c.args.shelf.now;
       before = g.S.Shelf.faults c.args.shelf.now;
@@ -35,8 +35,8 @@ returns-in-Err-read_all g c =
     rw c.of_read-in-Err-read_all.ensures
     (list_stops run asked c.in-Ok.class.items c.in-Ok.ensures.whole class_fits c.in-Err-read_all.stop _ _ (c.read_all.ensures.same asked.lists) (c.read_all.ensures.later asked.lists) refl c.in-Err-read_all.ensures.cause)
 
-pub returns-in-Err-Fault : goal.returns-in-Err-Fault
-returns-in-Err-Fault g c =
+pub returns-in-Err-Fault-clause-serves : goal.returns-in-Err-Fault-clause-serves
+returns-in-Err-Fault-clause-serves g c =
     let run : Run = record {
       holds = g.S.Shelf.holds c.args.shelf.now;
       before = g.S.Shelf.faults c.args.shelf.now;
@@ -54,8 +54,8 @@ returns-in-Err-Fault g c =
     let stopped = rw (c.in-Err-Fault.field-0-is, c.as_slice.ensures.value, c.as_slice-2.ensures.value) at c.in-Err-Fault.ensures.err in
     texts_stop run asked c.in-Ok.class.items c.in-Ok.ensures.whole class_fits c.in-Ok-read_all.list.items whole_list list_fits c.in-Err-Fault.fault refl stopped
 
-pub returns-in-Ok-read_and_report : goal.returns-in-Ok-read_and_report
-returns-in-Ok-read_and_report g c =
+pub returns-in-Ok-read_and_report-clause-serves : goal.returns-in-Ok-read_and_report-clause-serves
+returns-in-Ok-read_and_report-clause-serves g c =
     let run : Run = record {
       holds = g.S.Shelf.holds c.args.shelf.now;
       before = g.S.Shelf.faults c.args.shelf.now;
