@@ -16,11 +16,11 @@ types = names ++ primitives
 -- all words, keywords too
 abbrev pub words : Kinds
 words = kinds.Word ∷ kinds.Further ∷ kinds.Abstract ∷ kinds.Final ∷ kinds.Native ∷ kinds.Public ∷ kinds.Protected ∷ kinds.Private
-  ∷ kinds.Static ∷ kinds.Synchronized ∷ kinds.Transient ∷ kinds.Volatile ∷ kinds.Strictfp ∷ kinds.Enum ∷ kinds.Annotation
-  ∷ kinds.Class ∷ kinds.Interface ∷ kinds.Void ∷ kinds.Boolean ∷ kinds.Byte ∷ kinds.Short ∷ kinds.Char ∷ kinds.Int ∷ kinds.Long
-  ∷ kinds.Float ∷ kinds.Double ∷ kinds.NullType ∷ kinds.Unknown ∷ kinds.Extends ∷ kinds.Implements ∷ kinds.Breakpoint
-  ∷ kinds.Case ∷ kinds.Catch ∷ kinds.Cmp ∷ kinds.Cmpg ∷ kinds.Cmpl ∷ kinds.Default ∷ kinds.Entermonitor ∷ kinds.Exitmonitor
-  ∷ kinds.From ∷ kinds.Goto ∷ kinds.If ∷ kinds.Instanceof ∷ kinds.Interfaceinvoke ∷ kinds.Lengthof ∷ kinds.Lookupswitch
-  ∷ kinds.Neg ∷ kinds.New ∷ kinds.Newarray ∷ kinds.Newmultiarray ∷ kinds.Nop ∷ kinds.Null ∷ kinds.Ret ∷ kinds.Return
-  ∷ kinds.Specialinvoke ∷ kinds.Staticinvoke ∷ kinds.Dynamicinvoke ∷ kinds.Tableswitch ∷ kinds.Throw ∷ kinds.Throws
-  ∷ kinds.To ∷ kinds.Virtualinvoke ∷ kinds.With ∷ []
+    ∷ kinds.Static ∷ kinds.Synchronized ∷ kinds.Transient ∷ kinds.Volatile ∷ kinds.Strictfp ∷ kinds.Enum ∷ kinds.Annotation
+    ∷ kinds.Class ∷ kinds.Interface ∷ kinds.Void ∷ kinds.Boolean ∷ kinds.Byte ∷ kinds.Short ∷ kinds.Char ∷ kinds.Int ∷ kinds.Long
+    ∷ kinds.Float ∷ kinds.Double ∷ kinds.NullType ∷ kinds.Unknown ∷ kinds.Extends ∷ kinds.Implements ∷ kinds.Breakpoint
+    ∷ kinds.Case ∷ kinds.Catch ∷ kinds.Cmp ∷ kinds.Cmpg ∷ kinds.Cmpl ∷ kinds.Default ∷ kinds.Entermonitor ∷ kinds.Exitmonitor
+    ∷ kinds.From ∷ kinds.Goto ∷ kinds.If ∷ kinds.Instanceof ∷ kinds.Interfaceinvoke ∷ kinds.Lengthof ∷ kinds.Lookupswitch
+    ∷ kinds.Neg ∷ kinds.New ∷ kinds.Newarray ∷ kinds.Newmultiarray ∷ kinds.Nop ∷ kinds.Null ∷ kinds.Ret ∷ kinds.Return
+    ∷ kinds.Specialinvoke ∷ kinds.Staticinvoke ∷ kinds.Dynamicinvoke ∷ kinds.Tableswitch ∷ kinds.Throw ∷ kinds.Throws
+    ∷ kinds.To ∷ kinds.Virtualinvoke ∷ kinds.With ∷ []
