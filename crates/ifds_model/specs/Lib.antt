@@ -2,3 +2,4 @@ pub mod Exact
 pub mod Machine
 pub mod Runs
 pub mod Count
+pub mod Local
