@@ -3,3 +3,8 @@ pub mod Machine
 pub mod Runs
 pub mod Count
 pub mod Local
+pub mod State
+pub mod Sound
+pub mod Free
+pub mod Laws
+pub mod Events

@@ -2,8 +2,10 @@
 // a solver is generic over. `clean_base` stands below; no crate that knows Jimple or a table does.
 #![tactic(auto)]
 
+pub mod event;
 pub mod node;
 pub mod problem;
 
+pub use event::Event;
 pub use node::{Context, Dir, Frame, Item, Leak, Move, Node};
 pub use problem::Problem;
