@@ -8,3 +8,4 @@ pub mod Sound
 pub mod Free
 pub mod Laws
 pub mod Events
+pub mod Outcome

@@ -74,10 +74,14 @@ abbrev pub context_of : {F : Type 0} → Item F → Context F
 context_of (Edge context node fact) = context
 context_of (Join caller call callee exit) = caller
 
--- the moves of an item: all that its edge may do, or the Go moves of the caller behind its call
+-- the moves of a caller behind its call: it goes on where `back` says
+abbrev pub GoesBack : {F M : Type 0} → Machine F M → StmtId → F → Move F M → Type 0
+GoesBack P call exit m = (n : Node) × (f : _) × P.back call exit (Go n f) × (m ≡ Go n f)
+
+-- the moves of an item: all that its edge may do, or those of the caller behind its call
 abbrev pub MovesOf : {F M : Type 0} → Machine F M → Item F → Move F M → Type 0
 MovesOf P (Edge context node fact) m = P.step node fact m
-MovesOf P (Join caller call callee exit) m = (n : Node) × (f : _) × P.back call exit (Go n f) × (m ≡ Go n f)
+MovesOf P (Join caller call callee exit) m = GoesBack P call exit m
 
 module _ {F M : Type 0} where
   abbrev pub IsHeld : View F M → Frame F → Type 0

@@ -4,8 +4,10 @@
 
 pub mod event;
 pub mod node;
+pub mod outcome;
 pub mod problem;
 
 pub use event::Event;
 pub use node::{Context, Dir, Frame, Item, Leak, Move, Node};
+pub use outcome::{Outcome, work};
 pub use problem::Problem;
