@@ -1,1 +1,3 @@
 mod Back
+pub mod Members
+pub mod Quiet

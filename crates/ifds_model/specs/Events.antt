@@ -116,6 +116,7 @@ module _ {F M : Type 0} where
 
   -- the known contexts of these methods are retired, and their edges go
   pub record Drops (inside : MethodId → Type 0) (old new : View F M) : Type 0 where
+    pub known : (e : Context F) → IsKnown old e → IsKnown new e
     pub retired : (e : Context F) → IsRetired new e ↔ (IsRetired old e ⊎ (IsLive old e × inside e.method))
     pub live : (e : Context F) → IsLive new e ↔ (IsLive old e × (inside e.method → ⊥))
     pub held : (a : Frame F) → IsHeld new a ↔ (IsHeld old a × (inside a.context.method → ⊥))

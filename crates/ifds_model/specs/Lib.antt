@@ -9,3 +9,4 @@ pub mod Free
 pub mod Laws
 pub mod Events
 pub mod Outcome
+pub mod Example

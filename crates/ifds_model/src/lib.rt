@@ -11,3 +11,6 @@ pub use event::Event;
 pub use node::{Context, Dir, Frame, Item, Leak, Move, Node};
 pub use outcome::{Outcome, work};
 pub use problem::Problem;
+
+#[cfg(test)]
+mod tests;

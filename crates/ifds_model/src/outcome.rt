@@ -26,6 +26,27 @@ impl<'a, P: Problem> Model for Outcome<'a, P> {
     ghost invariant = { λ o. AreMovesOf (P.machine o.problem.now) o.item o.moves.items };
 }
 
+impl<'a, P: Problem> Outcome<'a, P> {
+    pub fn problem(&self) -> &'a P
+        ensures { result.now ≡ self.now.problem }
+    {
+        self.problem
+    }
+
+    pub fn item(&self) -> Item<P::Fact>
+        ensures { result ≡ self.now.item }
+    {
+        self.item
+    }
+
+    pub fn moves(&self) -> &[Move<P::Fact, P::Mark>]
+        ensures kept { result.now ≡ self.now.moves }
+        ensures exact { AreMovesOf (P.machine self.now.problem) self.now.item result.now }
+    {
+        self.moves.as_slice()
+    }
+}
+
 // All that a fact at a node may do.
 fn edge_moves<P: Problem>(
     alloc: Global,
