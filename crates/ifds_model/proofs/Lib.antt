@@ -1,3 +1,4 @@
 mod Back
 pub mod Members
 pub mod Quiet
+pub mod Begun
