@@ -2,3 +2,4 @@ mod Back
 pub mod Members
 pub mod Quiet
 pub mod Begun
+pub mod Requeued
