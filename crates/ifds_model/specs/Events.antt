@@ -102,15 +102,14 @@ module _ {F M : Type 0} where
     pub found : new.found ≡ old.found + more
     pub rest : new ≡ record old { queue = new.queue; held = new.held; known = new.known; callers = new.callers; exits = new.exits; marks = new.marks; found = new.found }
 
-  -- the worker's item is no longer in hand, and its commit is counted
+  -- the worker's item is no longer in hand, and its commit is counted. Lag stays at the period once a sweep is due
   abbrev pub landed : ℕ → Item F → View F M → View F M
-  landed worker item s = record s { flights = slice_set s.flights worker None; commits = s.commits + commits_of item; lag = s.lag + 1 }
+  landed worker item s = record s { flights = slice_set s.flights worker None; commits = s.commits + commits_of item; lag = min (s.lag + 1) s.period }
 
-  -- the moves of a worker's item are taken in. No sweep is due, and the new edges keep within the limit
+  -- the moves of a worker's item are taken in, and the new edges keep within the limit
   pub record Commits (P : Machine F M) (worker : ℕ) (old new : View F M) : Type 0 where
     pub item : Item F
     pub flies : At old.flights worker (Some item)
-    pub undue : old.lag < old.period
     pub takes_in : TakesIn P (context_of item) (MovesOf P item) (landed worker item old) new
     pub within : new.found ≤ new.max_edges
 
