@@ -6,7 +6,8 @@ use Rattle.std.proofs.lemmas.Bool.Decides.{eqb_tells}
 use Rattle.std.specs.Prelude.{Contains}
 use Rattle.std.proofs.lemmas.List.Elements.{Contains-get_or}
 use Rattle.std.proofs.lemmas.List.Quantifiers.{all_pairs_push}
-use Rattle.entry_tables.specs.Lists.{IsDistinct, list_at, KeepsRoom, UsesRoomAt}
+use Rattle.ifds_model.specs.State.{IsDistinct}
+use Rattle.entry_tables.specs.Lists.{list_at, KeepsRoom, UsesRoomAt}
 use Rattle.entry_tables.specs.Rows.{Row, lists_of, rooms_of}
 
 -- a list without repeats stays so with one more item that it lacks

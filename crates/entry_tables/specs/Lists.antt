@@ -1,13 +1,5 @@
--- Places, members and room, over plain lists.
-use Rattle.std.specs.Prelude.{◌≡◌, ◌≢◌, ◌≤◌, ◌<◌, ◌+◌, ℕ, List, [], length, slice_index, slice_index_or, AllPairs}
-
--- the item stands at this place of the list
-abbrev pub At : {X : Type 0} → List X → ℕ → X → Type 0
-At xs n x = (n < length xs) × (slice_index_or xs n x ≡ x)
-
--- no item stands in the list twice
-abbrev pub IsDistinct : {X : Type 0} → List X → Type 0
-IsDistinct xs = AllPairs (λ x y. x ≢ y) xs
+-- Lists of lists, and room, over plain lists.
+use Rattle.std.specs.Prelude.{◌≢◌, ◌≤◌, ◌+◌, ℕ, List, [], slice_index, slice_index_or}
 
 -- the list with this number
 abbrev pub list_at : {X : Type 0} → List (List X) → ℕ → List X

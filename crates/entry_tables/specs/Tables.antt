@@ -2,7 +2,8 @@
 use Rattle.std.specs.Prelude.{◌≡◌, ◌≤◌, ◌<◌, ◌+◌, ◌-◌, ℕ, List, [], length, take, slice_index}
 use Rattle.clean_base.specs.declared.ids.StmtId.{StmtId}
 use Rattle.ifds_model.specs.declared.node.Context.{Context}
-use Rattle.entry_tables.specs.Lists.{IsDistinct, list_at, KeepsRoom}
+use Rattle.ifds_model.specs.State.{IsDistinct}
+use Rattle.entry_tables.specs.Lists.{list_at, KeepsRoom}
 use Rattle.entry_tables.specs.Rows.{Rows, IsEven}
 use Rattle.entry_tables.specs.declared.tables.Caller.{Caller}
 

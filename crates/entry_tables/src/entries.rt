@@ -1,7 +1,7 @@
 // One list of entries, each once, in the order of adding. Numbered lists stand above; how the entries are kept stands
 // below.
 ghost use Rattle.std.specs.Prelude.{◌≡◌, ◌≤◌, ◌<◌, ◌+◌, ◌++◌, ◌∷◌, [], IsTrue, false, length, Contains, OnOk};
-ghost use Rattle.entry_tables.specs.Lists.{At, IsDistinct};
+ghost use Rattle.ifds_model.specs.State.{At, IsDistinct};
 
 use crate::kept::Kept;
 use clean_base::Plain;
@@ -16,7 +16,7 @@ pub struct Entries<T: Plain> {
 
 impl<T: Plain> Model for Entries<T> {
     ghost use Rattle.entry_tables.specs.Kept.{items_of, spare_of};
-    ghost use Rattle.entry_tables.specs.Lists.{IsDistinct};
+    ghost use Rattle.ifds_model.specs.State.{IsDistinct};
     ghost use Rattle.entry_tables.specs.Rows.{Row};
 
     ghost Value = { Row T };

@@ -2,7 +2,7 @@
 // from the one to the other where room is made, so that adding takes no memory. Nothing here knows what an entry is.
 ghost use Rattle.std.specs.Prelude.{◌≡◌, ◌≤◌, ◌<◌, ◌+◌, ◌-◌, ◌++◌, ◌∷◌, [], IsTrue, false, length, Contains, OnOk, IfOk, vec_len, vec_capacity};
 ghost use Rattle.indexmap.specs.IndexSet.{spare};
-ghost use Rattle.entry_tables.specs.Lists.{At, IsDistinct};
+ghost use Rattle.ifds_model.specs.State.{At, IsDistinct};
 ghost use Rattle.entry_tables.specs.Kept.{items_of, spare_of};
 
 use crate::places::{place_new, place_once};

@@ -1,7 +1,7 @@
 // Ordered sets, whose items are numbered by their places. Tables and long lists of entries stand above.
 ghost use Rattle.std.specs.Prelude.{◌≡◌, ◌≤◌, ◌<◌, ◌+◌, ◌++◌, ◌∷◌, [], IsTrue, false, length, Contains, IfSome, IfNone};
 ghost use Rattle.indexmap.specs.IndexSet.{spare};
-ghost use Rattle.entry_tables.specs.Lists.{At};
+ghost use Rattle.ifds_model.specs.State.{At};
 
 use clean_base::Plain;
 use indexmap::IndexSet;

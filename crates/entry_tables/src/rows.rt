@@ -1,7 +1,8 @@
 // Numbered lists of entries. Those that no number was given for yet are prepared here, empty and with room, so that
 // giving out a number takes no memory.
 ghost use Rattle.std.specs.Prelude.{◌≡◌, ◌≤◌, ◌<◌, ◌+◌, ◌-◌, ◌++◌, ◌∷◌, [], ℕ, max, IsTrue, false, length, replicate, slice_index, slice_set, Contains, OnOk, OnErr};
-ghost use Rattle.entry_tables.specs.Lists.{At, IsDistinct, list_at, KeepsRoom, UsesRoomAt};
+ghost use Rattle.ifds_model.specs.State.{At, IsDistinct};
+ghost use Rattle.entry_tables.specs.Lists.{list_at, KeepsRoom, UsesRoomAt};
 ghost use Rattle.entry_tables.specs.Rows.{IsEven};
 
 use crate::entries::Entries;

@@ -2,7 +2,7 @@
 // entry take no memory.
 ghost use Rattle.std.specs.Prelude.{◌≡◌, ◌≤◌, ◌<◌, ◌+◌, ◌++◌, ◌∷◌, [], IsTrue, false, length, slice_index, slice_set, Contains, IfSome, IfNone, OnOk};
 ghost use Rattle.indexmap.specs.IndexSet.{spare};
-ghost use Rattle.entry_tables.specs.Lists.{At};
+ghost use Rattle.ifds_model.specs.State.{At};
 
 use crate::places::{place_new, place_of};
 use crate::rows::EntryRows;
@@ -46,7 +46,8 @@ impl<F: Plain> Model for EntryTables<F> {
 }
 
 impl<F: Plain> EntryTables<F> {
-    ghost use Rattle.entry_tables.specs.Lists.{IsDistinct, KeepsRoom, UsesRoomAt};
+    ghost use Rattle.ifds_model.specs.State.{IsDistinct};
+    ghost use Rattle.entry_tables.specs.Lists.{KeepsRoom, UsesRoomAt};
     ghost use Rattle.entry_tables.specs.Tables.{caller_of, callers_of, exits_of, IsWhole, IsUnchanged, KeepsAllRoom};
 
     /// Tables that know no context.
