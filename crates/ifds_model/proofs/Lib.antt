@@ -3,3 +3,4 @@ pub mod Members
 pub mod Quiet
 pub mod Begun
 pub mod Requeued
+pub mod Retired
