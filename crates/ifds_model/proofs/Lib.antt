@@ -4,3 +4,4 @@ pub mod Quiet
 pub mod Begun
 pub mod Requeued
 pub mod Retired
+pub mod Kept
