@@ -5,3 +5,4 @@ pub mod Begun
 pub mod Requeued
 pub mod Retired
 pub mod Kept
+pub mod Happened

@@ -99,3 +99,11 @@ impl<F: Plain> Plain for Frame<F> {
 
     ghost exact = { λ x y h. same_frame ⟦<Context<F> as PartialEq>⟧.eq ⟦<Node as PartialEq>⟧.eq F.eq (λ a b e. same_context ⟦<Dir as PartialEq>⟧.eq F.eq (λ d f u. Prim.search rules) F.exact a b e) (λ a b e. Prim.search rules) F.exact x y h };
 }
+
+impl<F: Plain> Plain for Item<F> {
+    ghost use Rattle.std.specs.Prelude.{true};
+    ghost use Rattle.std.proofs.Common.{rules};
+    ghost use Rattle.ifds_model.specs.Exact.{same_context, same_edge, same_join, same_item};
+
+    ghost exact = { same_item ⟦<Item<F> as PartialEq>⟧.eq (same_edge ⟦<Context<F> as PartialEq>⟧.eq ⟦<Node as PartialEq>⟧.eq F.eq (λ a b e. same_context ⟦<Dir as PartialEq>⟧.eq F.eq (λ d f u. Prim.search rules) F.exact a b e) (λ a b e. Prim.search rules) F.exact) (same_join ⟦<Context<F> as PartialEq>⟧.eq ⟦<Node as PartialEq>⟧.eq F.eq (λ a b e. same_context ⟦<Dir as PartialEq>⟧.eq F.eq (λ d f u. Prim.search rules) F.exact a b e) (λ a b e. Prim.search rules) F.exact) (λ c d n f j l y. ((λ h. Prim.cc h), (λ h. Prim.cc h))) };
+}
