@@ -1,5 +1,6 @@
 // The moves of each kind of item, in a small problem whose machine `specs/Example.antt` gives.
 ghost use Rattle.std.specs.Prelude.{◌≡◌, ◌↔◌, IfSome, IfNone};
+ghost use Rattle.ifds_model.specs.Laws.{IsLawful};
 ghost use Rattle.ifds_model.specs.Example.{before, entered, Step};
 
 use crate::{Context, Dir, Item, Move, Node, Problem, work};
@@ -147,6 +148,12 @@ impl Problem for Example {
     ghost called_within = { λ p n f at e s. called_within n f at e s };
 }
 
+// Every problem has the laws that the lemmas about solvers ask for.
+fn lawful<P: Problem>(_problem: &P)
+    ensures { IsLawful (P.machine _problem.now) (P.method_of _problem.now) (P.reaches _problem.now) }
+{
+}
+
 const fn edge(method: u32, stmt: u32, fact: u16) -> Item<LocalId> {
     Item::Edge {
         context: entered(method, LocalId(7)),
@@ -188,6 +195,7 @@ fn the_moves_of_each_kind_of_item(rt: HostRuntime) -> Result<(), Fail> {
             },
         ),
     ];
+    lawful(&Example);
     for (item, only) in table {
         let outcome = work(rt.alloc(), &Example, item)?;
         assert_eq!(rt; outcome.item(), item);
