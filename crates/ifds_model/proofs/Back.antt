@@ -15,9 +15,9 @@ goes_back : {F M : Type 0} (P : Machine F M) (call : StmtId) (x : F) → ((m : M
     → (moves : List (Move F M)) → ((m : Move F M) → Contains moves m ↔ P.back call x m) → (m : Move F M) → Contains moves m ↔ GoesBack P call x m
 goes_back {F} {M} P call x only moves are m = (
   λ has.
-  let back = (are m).0 has in
-  let go = only m back in
-  (go.0, go.1, subst (λ (k : Move F M). P.back call x k) go.2 back, go.2),
+      let back = (are m).0 has in
+      let go = only m back in
+      (go.0, go.1, subst (λ (k : Move F M). P.back call x k) go.2 back, go.2),
   λ back. subst (λ (k : Move F M). Contains moves k) (sym back.3) ((are (Go back.0 back.1)).1 back.2),
 )
 

@@ -1,5 +1,5 @@
 -- The state that `open` gives is sound, tidy, and keeps the laws on lag.
-use Rattle.std.specs.Prelude.{◌≡◌, ◌⊎◌, ◌↔◌, ◌≤◌, ◌<◌, ℕ, false, true, List, [], ◌∷◌, length, replicate, Contains, Option, Some, None}
+use Rattle.std.specs.Prelude.{◌≡◌, ◌↔◌, ◌≤◌, ℕ, false, true, List, [], ◌∷◌, replicate, Contains, Option, Some, None}
 use Rattle.std.proofs.Common.{arith, sym, ◌∙◌, ap, subst, inl, inr, refl}
 use Rattle.std.proofs.lemmas.List.Elements.{Contains-push, Contains-push_cases, All-replicate}
 use Rattle.clean_base.specs.declared.ids.MethodId.{MethodId}
@@ -7,15 +7,13 @@ use Rattle.clean_base.specs.declared.ids.StmtId.{StmtId}
 use Rattle.ifds_model.specs.declared.node.Context.{Context}
 use Rattle.ifds_model.specs.declared.node.Frame.{Frame}
 use Rattle.ifds_model.specs.declared.node.Item.{Item}
-use Rattle.ifds_model.specs.declared.node.Item.TheVariants.{Edge, Join}
+use Rattle.ifds_model.specs.declared.node.Item.TheVariants.{Join}
 use Rattle.ifds_model.specs.declared.node.Node.{Node}
-use Rattle.ifds_model.specs.declared.node.Move.{Move}
-use Rattle.ifds_model.specs.declared.node.Move.TheVariants.{Go, Call, Exit, Mark}
 use Rattle.ifds_model.specs.Machine.{Machine}
-use Rattle.ifds_model.specs.Runs.{opened, IsEdge, HasCount, Lists}
-use Rattle.ifds_model.specs.State.{View, Known, Caller, Exited, At, IsTidy, IsOnce, at_node, edge_item, context_of, IsHeld, IsLive, IsRetired, IsKnown, IsCaller, IsExit, IsMarked, IsPending}
-use Rattle.ifds_model.specs.Sound.{IsSound, IsTaken, IsFound, IsDone}
-use Rattle.ifds_model.specs.Free.{IsFree, IsFreed, KeepsLag}
+use Rattle.ifds_model.specs.Runs.{opened, IsEdge}
+use Rattle.ifds_model.specs.State.{View, Known, Caller, Exited, IsTidy, at_node, edge_item, context_of, IsLive, IsRetired, IsPending}
+use Rattle.ifds_model.specs.Sound.{IsSound, IsFound, IsDone}
+use Rattle.ifds_model.specs.Free.{KeepsLag}
 use Rattle.ifds_model.specs.Events.{opening, IsOpened}
 use Rattle.ifds_model.proofs.Members.{empty_count, one_member}
 
@@ -85,9 +83,9 @@ module _ {F M : Type 0} (P : Machine F M) (node : Node) (start : P.start P.root 
     held = record {
       edges = λ a held. subst (λ (b : Frame F). IsEdge P b × IsLive state b.context) (sym (only_one first a held)) (is_edge, root_live);
       starts = λ e n live starts.
-      let same : e ≡ P.root = live_is e live in
-      let here : n ≡ node = only n (subst (λ (d : Context F). P.start d n) same starts) in
-      the_one first (opened e n) (ap (λ (d : Context F). opened d n) same ∙ ap (λ (k : Node). opened P.root k) here);
+          let same : e ≡ P.root = live_is e live in
+          let here : n ≡ node = only n (subst (λ (d : Context F). P.start d n) same starts) in
+          the_one first (opened e n) (ap (λ (d : Context F). opened d n) same ∙ ap (λ (k : Node). opened P.root k) here);
       pending_edges = λ a pending. the_one first a (same_edge a first (pending_is (edge_item a) pending));
       pending_joins = λ e at d x pending. absurd (join_apart first e at d x (pending_is (Join e at d x) pending));
       once = record {
@@ -122,8 +120,8 @@ module _ {F M : Type 0} (P : Machine F M) (node : Node) (start : P.start P.root 
   opening_lag reaches itself = record {
     within = omega arith;
     swept = λ zero m freed.
-    let here : P.root.method ≡ m = sym (ap (λ (a : Frame F). a.context.method) (only_one first freed.edge freed.held)) ∙ freed.method in
-    freed.free (edge_item first) (inl (the_one (edge_item first) (edge_item first) refl)) (subst (λ (n : MethodId). reaches m n) (sym here) (itself m));
+        let here : P.root.method ≡ m = sym (ap (λ (a : Frame F). a.context.method) (only_one first freed.edge freed.held)) ∙ freed.method in
+        freed.free (edge_item first) (inl (the_one (edge_item first) (edge_item first) refl)) (subst (λ (n : MethodId). reaches m n) (sym here) (itself m));
   }
 
 -- what `open` gives

@@ -1,5 +1,4 @@
 -- Every event keeps a tidy state sound, and keeps the laws on lag.
-use Rattle.std.specs.Prelude.{◌≡◌}
 use Rattle.clean_base.specs.declared.ids.MethodId.{MethodId}
 use Rattle.clean_base.specs.declared.ids.StmtId.{StmtId}
 use Rattle.ifds_model.specs.declared.event.Event.{Event}

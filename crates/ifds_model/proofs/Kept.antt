@@ -1,5 +1,5 @@
 -- A commit keeps a state sound: the item is no longer in hand, and its moves are taken in.
-use Rattle.std.specs.Prelude.{◌≡◌, ◌≢◌, ◌⊎◌, ◌≤◌, ℕ, suc, ◌+◌, List, [], ◌∷◌, ◌++◌, length, slice_set, slice_index_or, Contains, AllPairs, Option, Some, None}
+use Rattle.std.specs.Prelude.{◌≡◌, ◌≢◌, ◌⊎◌, ◌≤◌, ℕ, suc, ◌+◌, List, [], ◌∷◌, ◌++◌, slice_set, slice_index_or, Contains, AllPairs, Option, Some, None}
 use Rattle.std.proofs.Common.{arith, sym, ◌∙◌, ap, subst, inl, inr, refl, length-append}
 use Rattle.std.proofs.lemmas.List.Kept.{AllPairs-cons}
 use Rattle.std.proofs.lemmas.List.Elements.{All-append, Contains-get_or, Contains-push, Contains-append_left, Contains-append_right, Contains-append_cases, Contains-push_cases}
@@ -14,12 +14,12 @@ use Rattle.ifds_model.specs.declared.node.Node.{Node}
 use Rattle.ifds_model.specs.declared.node.Move.{Move}
 use Rattle.ifds_model.specs.declared.node.Move.TheVariants.{Go, Call, Exit, Mark}
 use Rattle.ifds_model.specs.Machine.{Machine}
-use Rattle.ifds_model.specs.Runs.{opened, IsEdge, IsContext, IsLeak, HasCount, Lists}
-use Rattle.ifds_model.specs.Local.{Local, starts, goes, returns, local_edge, edge_local}
-use Rattle.ifds_model.specs.State.{View, At, IsDistinct, IsTidy, IsOnce, at_node, edge_item, context_of, GoesBack, MovesOf, IsHeld, IsLive, IsRetired, IsKnown, IsCaller, IsExit, IsMarked, IsPending}
+use Rattle.ifds_model.specs.Runs.{opened, IsEdge, IsContext, IsLeak, HasCount}
+use Rattle.ifds_model.specs.Local.{starts, goes, returns, local_edge, edge_local}
+use Rattle.ifds_model.specs.State.{View, At, IsDistinct, IsTidy, IsOnce, at_node, edge_item, context_of, MovesOf, IsHeld, IsLive, IsRetired, IsKnown, IsCaller, IsExit, IsMarked, IsPending}
 use Rattle.ifds_model.specs.Sound.{IsSound, IsTaken, IsFound, IsDone, Calls, Exits}
 use Rattle.ifds_model.specs.Free.{KeepsLag}
-use Rattle.ifds_model.specs.Events.{commits_of, TakesIn, LeadsTo, landed, Commits}
+use Rattle.ifds_model.specs.Events.{commits_of, TakesIn, landed, Commits}
 use Rattle.ifds_model.proofs.Begun.{same_edge, join_apart}
 use Rattle.ifds_model.proofs.Quiet.{live_or_retired}
 use Rattle.ifds_model.proofs.Requeued.{emptied_other, emptied_or_stays}
@@ -51,10 +51,10 @@ module _ {F M : Type 0} (P : Machine F M) (old : View F M) (sound : IsSound P ol
         exits = λ x move. record { node = a.node; fact = a.fact; edge = is.0; move = move };
         marks = λ m move. (a, is.0, move);
         edge = λ b same m move.
-        let nodes : b.node ≡ a.node = cc in
-        let facts : b.fact ≡ a.fact = cc in
-        let contexts : b.context ≡ a.context = cc in
-        (subst (λ (f : F). P.step a.node f m) facts (subst (λ (n : Node). P.step n b.fact m) nodes move), contexts);
+            let nodes : b.node ≡ a.node = cc in
+            let facts : b.fact ≡ a.fact = cc in
+            let contexts : b.context ≡ a.context = cc in
+            (subst (λ (f : F). P.step a.node f m) facts (subst (λ (n : Node). P.step n b.fact m) nodes move), contexts);
         join = λ c at d x same n f back. absurd (join_apart a c at d x same);
       }
 
@@ -68,19 +68,19 @@ module _ {F M : Type 0} (P : Machine F M) (old : View F M) (sound : IsSound P ol
       record {
         live = live;
         goes = λ n f move.
-        let nodes : move.0 ≡ n = cc (move.3) in
-        let facts : move.1 ≡ f = cc (move.3) in
-        let back : P.back at x (Go n f) = subst (λ (g : F). P.back at x (Go n g)) facts (subst (λ (k : Node). P.back at x (Go k move.1)) nodes move.2) in
-        edge_local P (at_node c n f) (sound.entries.contexts c known.1) (returns (local_edge P (at_node c call.node call.fact) call.edge) call.move (local_edge P (at_node d exit.node exit.fact) exit.edge) exit.move back);
+            let nodes : move.0 ≡ n = cc (move.3) in
+            let facts : move.1 ≡ f = cc (move.3) in
+            let back : P.back at x (Go n f) = subst (λ (g : F). P.back at x (Go n g)) facts (subst (λ (k : Node). P.back at x (Go k move.1)) nodes move.2) in
+            edge_local P (at_node c n f) (sound.entries.contexts c known.1) (returns (local_edge P (at_node c call.node call.fact) call.edge) call.move (local_edge P (at_node d exit.node exit.fact) exit.edge) exit.move back);
         calls = λ at d move. cc (move.3);
         exits = λ x move. cc (move.3);
         marks = λ m move. cc (move.3);
         edge = λ b same m move. absurd (join_apart b c at d x (sym same));
         join = λ e i g y same n f back.
-        let calls : i ≡ at = cc in
-        let exits : y ≡ x = cc in
-        let contexts : e ≡ c = cc in
-        ((n, f, subst (λ (u : F). P.back at u (Go n f)) exits (subst (λ (k : StmtId). P.back k y (Go n f)) calls back), refl), contexts);
+            let calls : i ≡ at = cc in
+            let exits : y ≡ x = cc in
+            let contexts : e ≡ c = cc in
+            ((n, f, subst (λ (u : F). P.back at u (Go n f)) exits (subst (λ (k : StmtId). P.back k y (Go n f)) calls back), refl), contexts);
       }
 
   pub in_hand : (item : Item F) → IsPending old item → IsInHand P old item
@@ -190,16 +190,16 @@ module _ {F M : Type 0} (P : Machine F M) (old : View F M) (sound : IsSound P ol
     once_now = record {
       queue = subst IsDistinct (sym t.queue) (pairs_append (λ a b. a ≢ b) old.queue t.added sound.held.once.queue t.once (λ a b queued added same. added_fresh b added (inl (subst (λ (k : Item F). Contains old.queue k) same queued))));
       flights = λ i v w one two.
-      let first = subst (λ (fs : List (Option (Item F))). At fs v (Some i)) flights_now one in
-      let second = subst (λ (fs : List (Option (Item F))). At fs w (Some i)) flights_now two in
-      sound.held.once.flights i v w (emptied_other old.flights worker item flies i v first).1 (emptied_other old.flights worker item flies i w second).1;
+          let first = subst (λ (fs : List (Option (Item F))). At fs v (Some i)) flights_now one in
+          let second = subst (λ (fs : List (Option (Item F))). At fs w (Some i)) flights_now two in
+          sound.held.once.flights i v w (emptied_other old.flights worker item flies i v first).1 (emptied_other old.flights worker item flies i w second).1;
       apart = λ i queued flew.
-      let there = subst (λ (fs : List (Option (Item F))). Contains fs (Some i)) flights_now flew in
-      let was = emptied_other old.flights worker item flies i there.0 (there.1, there.2) in
-      elim (Contains-append_cases old.queue t.added i (subst (λ (q : List (Item F)). Contains q i) t.queue queued)) [
-        | inl before ↦ sound.held.once.apart i before (there.0, was.1.0, was.1.1)
-        | inr added ↦ added_fresh i added (inr (there.0, was.1.0, was.1.1))
-      ];
+          let there = subst (λ (fs : List (Option (Item F))). Contains fs (Some i)) flights_now flew in
+          let was = emptied_other old.flights worker item flies i there.0 (there.1, there.2) in
+          elim (Contains-append_cases old.queue t.added i (subst (λ (q : List (Item F)). Contains q i) t.queue queued)) [
+            | inl before ↦ sound.held.once.apart i before (there.0, was.1.0, was.1.1)
+            | inr added ↦ added_fresh i added (inr (there.0, was.1.0, was.1.1))
+          ];
     }
 
     -- a held edge that isn't pending, or is in hand, doesn't become pending
@@ -379,8 +379,7 @@ module _ {F M : Type 0} (P : Machine F M) (old : View F M) (sound : IsSound P ol
       let t = c.takes_in in
       let commits : new.commits ≡ old.commits + commits_of c.item = ap (λ (v : View F M). v.commits) t.rest in
       let lag : new.lag ≡ old.lag + 1 = ap (λ (v : View F M). v.lag) t.rest in
-      let period : new.period ≡ old.period = ap (λ (v : View F M). v.period) t.rest in
-      (
+      let period : new.period ≡ old.period = ap (λ (v : View F M). v.period) t.rest in (
         taken_sound tidy worker c.item c.flies new t (subst (HasCount (IsDone P new)) (sym commits) (commit_count tidy worker c.item c.flies new t)) c.within,
         record { within = omega (arith, lag, period, c.undue); swept = λ zero m freed. absurd (omega (arith, lag, zero)) },
       )

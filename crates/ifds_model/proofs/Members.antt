@@ -7,7 +7,7 @@ use Rattle.std.proofs.lemmas.List.{get_or-set_same, get_or-set_other}
 use Rattle.std.proofs.lemmas.List.Edits.{length-remove}
 use Rattle.std.proofs.lemmas.List.Sorted.{IsPermutation-remove, IsPermutation-sym, Contains-permutation}
 use Rattle.std.proofs.lemmas.List.Elements.{Contains-push, Contains-push_cases}
-use Rattle.ifds_model.specs.Runs.{Lists, HasCount}
+use Rattle.ifds_model.specs.Runs.{HasCount}
 use Rattle.ifds_model.specs.Count.{cons_cases, no_more_than}
 use Rattle.ifds_model.specs.State.{At, IsDistinct}
 
@@ -48,11 +48,15 @@ empty_count {X} set none =
     (no, record { distinct = λ i j d below within. absurd (omega arith); sound = λ x has. absurd (omega (arith, has.1)); whole = λ x is. absurd (none x is) }, refl)
 
 pub one_member : {X : Type 0} (set : X → Type 0) (x : X) → set x → ((y : X) → set y → y ≡ x) → HasCount set 1
-one_member set x is only = (x ∷ [], record {
-  distinct = λ i j d below within. absurd (omega arith);
-  sound = λ y has. elim (Contains-push_cases [] x y has) [ inl none ↦ absurd (omega (arith, none.1)) | inr same ↦ subst set same is ];
-  whole = λ y in_set. subst (λ z. Contains (x ∷ []) z) (sym (only y in_set)) (Contains-push [] x);
-}, refl)
+one_member set x is only = (
+  x ∷ [],
+  record {
+    distinct = λ i j d below within. absurd (omega arith);
+    sound = λ y has. elim (Contains-push_cases [] x y has) [ inl none ↦ absurd (omega (arith, none.1)) | inr same ↦ subst set same is ];
+    whole = λ y in_set. subst (λ z. Contains (x ∷ []) z) (sym (only y in_set)) (Contains-push [] x);
+  },
+  refl,
+)
 
 -- sets with the same members have the same number of them
 pub same_count : {X : Type 0} (s t : X → Type 0) (n : ℕ) → ((a : X) → s a → t a) → ((a : X) → t a → s a) → HasCount s n → HasCount t n

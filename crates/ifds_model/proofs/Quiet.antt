@@ -1,14 +1,14 @@
 -- The central fact of dropping edges: where no method that one method reaches has a pending item, the held edges of each
 -- live known context of these methods are exactly its edges. And with nothing pending at all, a sound state has exactly
 -- the machine's edges, contexts and leaks.
-use Rattle.std.specs.Prelude.{◌≡◌, ◌≢◌, ◌⊎◌, ◌↔◌, ℕ, true, false, List, [], ◌∷◌}
+use Rattle.std.specs.Prelude.{◌≡◌, ◌≢◌, ◌↔◌, true, false, List, [], ◌∷◌}
 use Rattle.std.proofs.Common.{sym, ◌∙◌, ap, subst, inl, inr, refl}
 use Rattle.clean_base.specs.declared.ids.MethodId.{MethodId}
 use Rattle.clean_base.specs.declared.ids.StmtId.{StmtId}
 use Rattle.ifds_model.specs.declared.node.Context.{Context}
 use Rattle.ifds_model.specs.declared.node.Frame.{Frame}
 use Rattle.ifds_model.specs.declared.node.Item.{Item}
-use Rattle.ifds_model.specs.declared.node.Item.TheVariants.{Edge, Join}
+use Rattle.ifds_model.specs.declared.node.Item.TheVariants.{Join}
 use Rattle.ifds_model.specs.declared.node.Node.{Node}
 use Rattle.ifds_model.specs.declared.node.Move.{Move}
 use Rattle.ifds_model.specs.declared.node.Move.TheVariants.{Go, Call, Exit, Mark}
@@ -16,8 +16,8 @@ use Rattle.ifds_model.specs.Machine.{Machine}
 use Rattle.ifds_model.specs.Runs.{Configuration, Waiting, IsRun, IsEdge, IsContext, IsLeak, HasCount}
 use Rattle.ifds_model.specs.Local.{Local, starts, goes, returns, local_edge, edge_local}
 use Rattle.ifds_model.specs.State.{View, Known, IsTidy, at_node, edge_item, context_of, IsHeld, IsLive, IsRetired, IsKnown, IsMarked, IsExit, IsPending}
-use Rattle.ifds_model.specs.Sound.{IsSound, IsTaken, IsFound, IsDone, Calls, Exits}
-use Rattle.ifds_model.specs.Free.{IsFree, IsFreed}
+use Rattle.ifds_model.specs.Sound.{IsSound, IsTaken, IsFound, IsDone}
+use Rattle.ifds_model.specs.Free.{IsFree}
 use Rattle.ifds_model.specs.Events.{IsSwept}
 use Rattle.ifds_model.specs.Laws.{IsLawful}
 use Rattle.ifds_model.proofs.Members.{one_or_pair, same_count}
@@ -138,10 +138,13 @@ module _ {F M : Type 0} where
             sound.counts.commits
 
         pub contexts_exact : (e : Context F) → IsKnown s e ↔ IsContext P e
-        contexts_exact e = (sound.entries.contexts e, λ is. elim is [
-          | inl root ↦ subst (IsKnown s) (sym root) sound.entries.root
-          | inr called ↦ edge_called called.0 called.2 (edge_known called.0 called.2) (all called.0.context.method) called.1 e called.3
-        ])
+        contexts_exact e = (
+          sound.entries.contexts e,
+          λ is. elim is [
+            | inl root ↦ subst (IsKnown s) (sym root) sound.entries.root
+            | inr called ↦ edge_called called.0 called.2 (edge_known called.0 called.2) (all called.0.context.method) called.1 e called.3
+          ],
+        )
 
         pub marks_exact : (m : M) → IsMarked s m ↔ IsLeak P m
         marks_exact m = (sound.leaks m, λ leak. edge_marked leak.0 leak.1 (edge_known leak.0 leak.1) (all leak.0.context.method) m leak.2)

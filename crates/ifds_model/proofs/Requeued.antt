@@ -1,17 +1,16 @@
 -- Taking an item, and giving it back, keep a state sound: the same items are pending, each once.
 use Rattle.std.specs.Prelude.{◌≡◌, ◌≢◌, ◌⊎◌, ◌+◌, ◌-◌, ◌^◌, min, ℕ, List, [], ◌∷◌, ◌++◌, remove, slice_set, Contains, Option, Some, None}
-use Rattle.std.proofs.Common.{arith, sym, ◌∙◌, ap, subst, inl, inr, refl}
+use Rattle.std.proofs.Common.{sym, ◌∙◌, subst, inl, inr}
 use Rattle.std.proofs.lemmas.List.Elements.{Contains-push, Contains-push_cases, Contains-append_left, Contains-get_or}
 use Rattle.std.proofs.lemmas.List.Quantifiers.{all_pairs_push, all_pairs_remove}
-use Rattle.std.proofs.lemmas.List.Sorted.{IsPermutation-remove, Contains-permutation}
 use Rattle.clean_base.specs.declared.ids.MethodId.{MethodId}
 use Rattle.ifds_model.specs.declared.node.Frame.{Frame}
 use Rattle.ifds_model.specs.declared.node.Item.{Item}
 use Rattle.ifds_model.specs.declared.node.Item.TheVariants.{Join}
 use Rattle.ifds_model.specs.Machine.{Machine}
-use Rattle.ifds_model.specs.State.{View, At, IsDistinct, IsOnce, IsTidy, edge_item, context_of, IsPending}
+use Rattle.ifds_model.specs.State.{View, At, IsOnce, IsTidy, edge_item, IsPending}
 use Rattle.ifds_model.specs.Sound.{IsSound, IsDone}
-use Rattle.ifds_model.specs.Free.{KeepsLag, IsFreed}
+use Rattle.ifds_model.specs.Free.{KeepsLag}
 use Rattle.ifds_model.specs.Events.{Takes, GivesBack}
 use Rattle.ifds_model.proofs.Members.{at_one, at_set, at_set_same, at_set_other, same_number_or_not, without, removed_was, removed_apart, same_count}
 
@@ -166,11 +165,11 @@ module _ {F M : Type 0} (P : Machine F M) (old : View F M) (once : IsOnce old) w
       queue = all_pairs_push (λ a b. a ≢ b) old.queue item once.queue (λ k d below same. once.apart item (subst (λ (i : Item F). Contains old.queue i) same (Contains-get_or old.queue k d below)) (worker, flies.0, flies.1));
       flights = λ i v w one two. once.flights i v w (emptied_other old.flights worker item flies i v one).1 (emptied_other old.flights worker item flies i w two).1;
       apart = λ i queued flew.
-      let was = emptied_other old.flights worker item flies i flew.0 (flew.1, flew.2) in
-      elim (Contains-push_cases old.queue item i queued) [
-        | inl in_queue ↦ once.apart i in_queue (flew.0, was.1.0, was.1.1)
-        | inr same ↦ was.0 (once.flights i flew.0 worker was.1 (subst (λ (k : Item F). At old.flights worker (Some k)) same flies))
-      ];
+          let was = emptied_other old.flights worker item flies i flew.0 (flew.1, flew.2) in
+          elim (Contains-push_cases old.queue item i queued) [
+            | inl in_queue ↦ once.apart i in_queue (flew.0, was.1.0, was.1.1)
+            | inr same ↦ was.0 (once.flights i flew.0 worker was.1 (subst (λ (k : Item F). At old.flights worker (Some k)) same flies))
+          ];
     }
 
 module _ {F M : Type 0} (P : Machine F M) (reaches : MethodId → MethodId → Type 0) (old new : View F M) (sound : IsSound P old) (tidy : IsTidy old) (lag : KeepsLag reaches old) where

@@ -1,24 +1,23 @@
 -- Retiring free methods, and a sweep, keep a state sound, with the same numbers and the same done edges.
-use Rattle.std.specs.Prelude.{◌≡◌, ◌⊎◌, ◌↔◌, ◌≤◌, ℕ, List, Contains}
-use Rattle.std.proofs.Common.{arith, sym, ◌∙◌, ap, subst, inl, inr, refl}
+use Rattle.std.specs.Prelude.{◌⊎◌, ℕ}
+use Rattle.std.proofs.Common.{arith, sym, subst, inl, inr}
 use Rattle.clean_base.specs.declared.ids.MethodId.{MethodId}
 use Rattle.clean_base.specs.declared.ids.StmtId.{StmtId}
 use Rattle.ifds_model.specs.declared.node.Context.{Context}
 use Rattle.ifds_model.specs.declared.node.Frame.{Frame}
-use Rattle.ifds_model.specs.declared.node.Item.{Item}
 use Rattle.ifds_model.specs.declared.node.Item.TheVariants.{Join}
 use Rattle.ifds_model.specs.declared.node.Node.{Node}
 use Rattle.ifds_model.specs.declared.node.Move.{Move}
 use Rattle.ifds_model.specs.declared.node.Move.TheVariants.{Go, Call, Exit, Mark}
 use Rattle.ifds_model.specs.Machine.{Machine}
 use Rattle.ifds_model.specs.Runs.{opened, IsEdge}
-use Rattle.ifds_model.specs.State.{View, IsTidy, IsOnce, at_node, edge_item, context_of, IsHeld, IsLive, IsRetired, IsKnown, IsCaller, IsExit, IsPending}
-use Rattle.ifds_model.specs.Sound.{IsSound, IsTaken, IsFound, IsDone, Calls, Exits}
-use Rattle.ifds_model.specs.Free.{IsFree, IsFreed, KeepsLag}
+use Rattle.ifds_model.specs.State.{View, IsTidy, at_node, edge_item, context_of, IsHeld, IsLive, IsRetired, IsKnown, IsCaller, IsExit, IsPending}
+use Rattle.ifds_model.specs.Sound.{IsSound, IsTaken, IsFound, IsDone, Calls}
+use Rattle.ifds_model.specs.Free.{IsFreed, KeepsLag}
 use Rattle.ifds_model.specs.Events.{Drops, Retires, IsSwept, Sweeps}
 use Rattle.ifds_model.specs.Laws.{IsLawful}
 use Rattle.ifds_model.proofs.Members.{same_count}
-use Rattle.ifds_model.proofs.Quiet.{live_or_retired, called_reached, IsQuiet, free_quiet, swept_quiet, held_taken, edges_found, edge_called}
+use Rattle.ifds_model.proofs.Quiet.{live_or_retired, called_reached, IsQuiet, free_quiet, swept_quiet, held_taken, edges_found}
 
 module _ {F M : Type 0} (P : Machine F M) (method_of : StmtId → MethodId) (reaches : MethodId → MethodId → Type 0) (law : IsLawful P method_of reaches) (old : View F M) (tidy : IsTidy old) (sound : IsSound P old) where
   module _ (inside : MethodId → Type 0) (q : IsQuiet P method_of reaches law old inside) (lag : ℕ) (new : View F M) (d : Drops inside (record old { lag = lag }) new) where
@@ -172,8 +171,7 @@ module _ {F M : Type 0} (P : Machine F M) (method_of : StmtId → MethodId) (rea
   retire_kept m new (inr same) keeps = subst (λ (s : View F M). IsSound P s × KeepsLag reaches s) (sym same.1) (sound, keeps)
   retire_kept m new (inl drops) keeps =
       let q = free_quiet P method_of reaches law old m drops.0 in
-      let d = drops.1 in
-      (
+      let d = drops.1 in (
         drop_sound (λ n. reaches m n) q old.lag new d,
         subst (KeepsLag reaches) (sym d.rest) (record { within = keeps.within; swept = λ zero n freed. keeps.swept zero n (freed_was (λ k. reaches m k) q old.lag new d n freed) }),
       )
@@ -184,8 +182,7 @@ module _ {F M : Type 0} (P : Machine F M) (method_of : StmtId → MethodId) (rea
       let q = swept_quiet P method_of reaches law old in
       let none : (m : MethodId) → IsFreed reaches (dropped (IsSwept reaches old) q 0 new d) m → ⊥ = λ m freed.
       let was = freed_was (IsSwept reaches old) q 0 new d m freed in
-      ((d.held freed.edge).0 freed.held).1 (m, was, subst (λ (n : MethodId). reaches m n) (sym freed.method) (law.reaches_itself m)) in
-      (
+      ((d.held freed.edge).0 freed.held).1 (m, was, subst (λ (n : MethodId). reaches m n) (sym freed.method) (law.reaches_itself m)) in (
         drop_sound (IsSwept reaches old) q 0 new d,
         subst (KeepsLag reaches) (sym d.rest) (record { within = omega arith; swept = λ zero m freed. none m freed }),
         subst (λ (s : View F M). (m : MethodId) → IsFreed reaches s m → ⊥) (sym d.rest) none,

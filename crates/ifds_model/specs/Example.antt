@@ -1,7 +1,7 @@
 -- A small machine for the tests, by cases on the move: method 0 has three statements and calls method 1 at the second;
 -- behind the call it marks the third; method 1 has one statement, at which it exits with the fact that it was given.
 use Rattle.std.specs.Prelude.{◌≡◌, ◌⊎◌, ◌<◌, ℕ, Bool, true, false, cond, nat_eq}
-use Rattle.std.proofs.Common.{sym, ◌∙◌, ap, subst, inl, inr, refl, arith}
+use Rattle.std.proofs.Common.{sym, ◌∙◌, ap, inl, inr, arith}
 use Rattle.clean_base.specs.declared.ids.LocalId.{LocalId}
 use Rattle.clean_base.specs.declared.ids.MethodId.{MethodId}
 use Rattle.clean_base.specs.declared.ids.StmtId.{StmtId}

@@ -1,5 +1,5 @@
 -- Free and freed methods, and the two laws on lag (docs/SOLVER.md, "Free, freed and done"). The state stands below.
-use Rattle.std.specs.Prelude.{◌≡◌, ◌≤◌, ℕ}
+use Rattle.std.specs.Prelude.{◌≡◌, ◌≤◌}
 use Rattle.clean_base.specs.declared.ids.MethodId.{MethodId}
 use Rattle.ifds_model.specs.declared.node.Frame.{Frame}
 use Rattle.ifds_model.specs.declared.node.Item.{Item}

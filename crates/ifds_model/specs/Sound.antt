@@ -1,6 +1,6 @@
 -- When a solver's state is sound (docs/SOLVER.md, "Sound"). What contracts see of a state stands below; its events, and
 -- that each of them keeps a state sound, above.
-use Rattle.std.specs.Prelude.{◌≡◌, ◌⊎◌, ℕ, ◌≤◌}
+use Rattle.std.specs.Prelude.{◌⊎◌, ◌≤◌}
 use Rattle.clean_base.specs.declared.ids.StmtId.{StmtId}
 use Rattle.ifds_model.specs.declared.node.Context.{Context}
 use Rattle.ifds_model.specs.declared.node.Frame.{Frame}

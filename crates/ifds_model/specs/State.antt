@@ -8,7 +8,7 @@ use Rattle.ifds_model.specs.declared.node.Item.{Item}
 use Rattle.ifds_model.specs.declared.node.Item.TheVariants.{Edge, Join}
 use Rattle.ifds_model.specs.declared.node.Node.{Node}
 use Rattle.ifds_model.specs.declared.node.Move.{Move}
-use Rattle.ifds_model.specs.declared.node.Move.TheVariants.{Go, Call, Exit, Mark}
+use Rattle.ifds_model.specs.declared.node.Move.TheVariants.{Go}
 use Rattle.ifds_model.specs.Machine.{Machine}
 
 -- the item stands at this place of the list

@@ -151,8 +151,7 @@ impl Problem for Example {
 // Every problem has the laws that the lemmas about solvers ask for.
 fn lawful<P: Problem>(_problem: &P)
     ensures { IsLawful (P.machine _problem.now) (P.method_of _problem.now) (P.reaches _problem.now) }
-{
-}
+{}
 
 const fn edge(method: u32, stmt: u32, fact: u16) -> Item<LocalId> {
     Item::Edge {
