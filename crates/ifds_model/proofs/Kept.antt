@@ -1,6 +1,7 @@
 -- A commit keeps a state sound: the item is no longer in hand, and its moves are taken in.
-use Rattle.std.specs.Prelude.{◌≡◌, ◌≢◌, ◌⊎◌, ◌≤◌, ℕ, suc, ◌+◌, List, [], ◌∷◌, ◌++◌, slice_set, slice_index_or, Contains, AllPairs, Option, Some, None}
+use Rattle.std.specs.Prelude.{◌≡◌, ◌≢◌, ◌⊎◌, ◌≤◌, ℕ, suc, ◌+◌, min, List, [], ◌∷◌, ◌++◌, slice_set, slice_index_or, Contains, AllPairs, Option, Some, None}
 use Rattle.std.proofs.Common.{arith, sym, ◌∙◌, ap, subst, inl, inr, refl, length-append}
+use Rattle.std.proofs.Math.Nat.{min-le_right, le-min}
 use Rattle.std.proofs.lemmas.List.Kept.{AllPairs-cons}
 use Rattle.std.proofs.lemmas.List.Elements.{All-append, Contains-get_or, Contains-push, Contains-append_left, Contains-append_right, Contains-append_cases, Contains-push_cases}
 use Rattle.std.proofs.lemmas.List.Quantifiers.{all_pairs_push}
@@ -374,12 +375,15 @@ module _ {F M : Type 0} (P : Machine F M) (old : View F M) (sound : IsSound P ol
   commit_count tidy worker (Edge c n f) flies new t = edge_count tidy worker (Edge c n f) flies new t (at_node c n f) refl
   commit_count tidy worker (Join c at d x) flies new t = subst (HasCount (IsDone P new)) (omega arith) (join_count tidy worker (Join c at d x) flies new t (λ a same. join_apart a c at d x same))
 
-  pub commit_kept : (reaches : MethodId → MethodId → Type 0) (tidy : IsTidy old) (worker : ℕ) (new : View F M) → Commits P worker old new → IsSound P new × KeepsLag reaches new
-  commit_kept reaches tidy worker new c =
+  -- lag stays within the period, and isn't 0 behind a commit
+  pub commit_kept : (reaches : MethodId → MethodId → Type 0) (tidy : IsTidy old) (worker : ℕ) (new : View F M) → 1 ≤ old.period → Commits P worker old new → IsSound P new × KeepsLag reaches new
+  commit_kept reaches tidy worker new some c =
       let t = c.takes_in in
       let commits : new.commits ≡ old.commits + commits_of c.item = ap (λ (v : View F M). v.commits) t.rest in
-      let lag : new.lag ≡ old.lag + 1 = ap (λ (v : View F M). v.lag) t.rest in
-      let period : new.period ≡ old.period = ap (λ (v : View F M). v.period) t.rest in (
+      let lag : new.lag ≡ min (old.lag + 1) old.period = ap (λ (v : View F M). v.lag) t.rest in
+      let period : new.period ≡ old.period = ap (λ (v : View F M). v.period) t.rest in
+      let most = min-le_right (old.lag + 1) old.period in
+      let least : 1 ≤ min (old.lag + 1) old.period = le-min {a = old.lag + 1} (omega arith) some in (
         taken_sound tidy worker c.item c.flies new t (subst (HasCount (IsDone P new)) (sym commits) (commit_count tidy worker c.item c.flies new t)) c.within,
-        record { within = omega (arith, lag, period, c.undue); swept = λ zero m freed. absurd (omega (arith, lag, zero)) },
+        record { within = omega (arith, lag, period, most); swept = λ zero m freed. absurd (omega (arith, lag, zero, least)) },
       )

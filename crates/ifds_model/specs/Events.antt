@@ -1,7 +1,7 @@
 -- The first state, and what each event does to a state (docs/SOLVER.md, "Events"). All that a case doesn't name stays:
 -- where the new state is written as the old one with other fields, or `rest` says so. Sound states and freed methods
 -- stand below; that every event keeps a state sound is shown above.
-use Rattle.std.specs.Prelude.{◌≡◌, ◌⊎◌, ◌↔◌, ◌<◌, ◌≤◌, ℕ, ◌+◌, ◌-◌, ◌^◌, min, false, List, [], ◌∷◌, ◌++◌, replicate, remove, slice_set, Contains, Some, None}
+use Rattle.std.specs.Prelude.{◌≡◌, ◌⊎◌, ◌↔◌, ◌≤◌, ℕ, ◌+◌, ◌-◌, ◌^◌, min, false, List, [], ◌∷◌, ◌++◌, replicate, remove, slice_set, Contains, Some, None}
 use Rattle.clean_base.specs.declared.ids.MethodId.{MethodId}
 use Rattle.clean_base.specs.declared.ids.StmtId.{StmtId}
 use Rattle.ifds_model.specs.declared.event.Event.{Event}
