@@ -129,3 +129,8 @@ pub opened_sound : {F M : Type 0} (P : Machine F M) (period max_edges workers : 
 opened_sound {F} {M} P period max_edges workers s one limit o =
     let only : (m : Node) → P.start P.root m → m ≡ o.node = λ m starts. (one.1 m).0 starts ∙ sym ((one.1 o.node).0 o.starts) in
     subst (λ (t : View F M). IsSound P t × IsTidy t) (sym o.is) (opening_sound P o.node o.starts only period max_edges workers limit, opening_tidy P o.node o.starts only period max_edges workers)
+
+pub opened_lag : {F M : Type 0} (P : Machine F M) (period max_edges workers : ℕ) (s : View F M) (reaches : MethodId → MethodId → Type 0) → ((m : MethodId) → reaches m m) → ((n : Node) × ((m : Node) → P.start P.root m ↔ (m ≡ n))) → IsOpened P period max_edges workers s → KeepsLag reaches s
+opened_lag {F} {M} P period max_edges workers s reaches itself one o =
+    let only : (m : Node) → P.start P.root m → m ≡ o.node = λ m starts. (one.1 m).0 starts ∙ sym ((one.1 o.node).0 o.starts) in
+    subst (KeepsLag reaches) (sym o.is) (opening_lag P o.node o.starts only period max_edges workers reaches itself)

@@ -1,5 +1,5 @@
 -- A commit keeps a state sound: the item is no longer in hand, and its moves are taken in.
-use Rattle.std.specs.Prelude.{◌≡◌, ◌≢◌, ◌⊎◌, ◌≤◌, ℕ, suc, ◌+◌, min, List, [], ◌∷◌, ◌++◌, slice_set, slice_index_or, Contains, AllPairs, Option, Some, None}
+use Rattle.std.specs.Prelude.{◌↔◌, ◌≡◌, ◌≢◌, ◌⊎◌, ◌≤◌, ℕ, suc, ◌+◌, min, List, [], ◌∷◌, ◌++◌, slice_set, slice_index_or, Contains, AllPairs, Option, Some, None}
 use Rattle.std.proofs.Common.{arith, sym, ◌∙◌, ap, subst, inl, inr, refl, length-append}
 use Rattle.std.proofs.Math.Nat.{min-le_right, le-min}
 use Rattle.std.proofs.lemmas.List.Kept.{AllPairs-cons}
@@ -387,3 +387,13 @@ module _ {F M : Type 0} (P : Machine F M) (old : View F M) (sound : IsSound P ol
         taken_sound tidy worker c.item c.flies new t (subst (HasCount (IsDone P new)) (sym commits) (commit_count tidy worker c.item c.flies new t)) c.within,
         record { within = omega (arith, lag, period, most); swept = λ zero m freed. absurd (omega (arith, lag, zero, least)) },
       )
+
+  -- what is done now was done, or is the edge that was in hand, which wasn't
+  pub commit_done : (tidy : IsTidy old) (worker : ℕ) (new : View F M) (c : Commits P worker old new) (a : Frame F) → IsDone P new a ↔ (IsDone P old a ⊎ (c.item ≡ edge_item a))
+  commit_done tidy worker new c a = (
+    done_before tidy worker c.item c.flies new c.takes_in a,
+    λ is. elim is [ inl was ↦ done_after tidy worker c.item c.flies new c.takes_in a was | inr same ↦ (hand_done tidy worker c.item c.flies new c.takes_in a same).1 ],
+  )
+
+  pub commit_new : (tidy : IsTidy old) (worker : ℕ) (new : View F M) (c : Commits P worker old new) (a : Frame F) → c.item ≡ edge_item a → IsDone P old a → ⊥
+  commit_new tidy worker new c a same = (hand_done tidy worker c.item c.flies new c.takes_in a same).0

@@ -6,3 +6,4 @@ pub mod Requeued
 pub mod Retired
 pub mod Kept
 pub mod Happened
+pub mod Composed

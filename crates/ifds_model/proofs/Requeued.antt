@@ -1,5 +1,5 @@
 -- Taking an item, and giving it back, keep a state sound: the same items are pending, each once.
-use Rattle.std.specs.Prelude.{◌≡◌, ◌≢◌, ◌⊎◌, ◌+◌, ◌-◌, ◌^◌, min, ℕ, List, [], ◌∷◌, ◌++◌, remove, slice_set, Contains, Option, Some, None}
+use Rattle.std.specs.Prelude.{◌↔◌, ◌≡◌, ◌≢◌, ◌⊎◌, ◌+◌, ◌-◌, ◌^◌, min, ℕ, List, [], ◌∷◌, ◌++◌, remove, slice_set, Contains, Option, Some, None}
 use Rattle.std.proofs.Common.{sym, ◌∙◌, subst, inl, inr}
 use Rattle.std.proofs.lemmas.List.Elements.{Contains-push, Contains-push_cases, Contains-append_left, Contains-get_or}
 use Rattle.std.proofs.lemmas.List.Quantifiers.{all_pairs_push, all_pairs_remove}
@@ -25,11 +25,11 @@ module _ {F M : Type 0} (s : View F M) (queue : List (Item F)) (flights : List (
     pub once : IsOnce requeued
 
   module _ (r : IsRequeued) where
-    done_there : (P : Machine F M) (a : Frame F) → IsDone P s a → IsDone P requeued a
+    pub done_there : (P : Machine F M) (a : Frame F) → IsDone P s a → IsDone P requeued a
     done_there P a (inl done) = inl (done.0, λ pending. done.1 (r.back (edge_item a) pending))
     done_there P a (inr gone) = inr gone
 
-    done_back : (P : Machine F M) (a : Frame F) → IsDone P requeued a → IsDone P s a
+    pub done_back : (P : Machine F M) (a : Frame F) → IsDone P requeued a → IsDone P s a
     done_back P a (inl done) = inl (done.0, λ pending. done.1 (r.there (edge_item a) pending))
     done_back P a (inr gone) = inr gone
 
@@ -199,3 +199,27 @@ module _ {F M : Type 0} (P : Machine F M) (reaches : MethodId → MethodId → T
         once = give_once P old sound.held.once worker g.item g.flies;
       } in
       subst Keeps (sym g.is) (requeued_sound old queue flights old.takes r P sound, record { held = tidy.held; known = tidy.known }, requeued_lag old queue flights old.takes r reaches lag)
+
+  -- and what is done stays as it is
+  pub take_done : (worker place : ℕ) → Takes worker place old new → (a : Frame F) → IsDone P old a ↔ IsDone P new a
+  take_done worker place t a =
+      let queue = remove old.queue place in
+      let flights = slice_set old.flights worker (Some t.item) in
+      let takes = min (old.takes + 1) (2 ^ 64 - 1) in
+      let r : IsRequeued old queue flights takes = record {
+        there = take_there P old sound.held.once worker place t.item t.idle t.at;
+        back = take_back P old sound.held.once worker place t.item t.idle t.at;
+        once = take_once P old sound.held.once worker place t.item t.idle t.at takes;
+      } in
+      subst (λ (s : View F M). IsDone P old a ↔ IsDone P s a) (sym t.is) (done_there old queue flights takes r P a, done_back old queue flights takes r P a)
+
+  pub back_done : (worker : ℕ) → GivesBack worker old new → (a : Frame F) → IsDone P old a ↔ IsDone P new a
+  back_done worker g a =
+      let queue = old.queue ++ g.item ∷ [] in
+      let flights = slice_set old.flights worker None in
+      let r : IsRequeued old queue flights old.takes = record {
+        there = give_there P old sound.held.once worker g.item g.flies;
+        back = give_back P old sound.held.once worker g.item g.flies;
+        once = give_once P old sound.held.once worker g.item g.flies;
+      } in
+      subst (λ (s : View F M). IsDone P old a ↔ IsDone P s a) (sym g.is) (done_there old queue flights old.takes r P a, done_back old queue flights old.takes r P a)

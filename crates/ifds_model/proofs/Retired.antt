@@ -1,5 +1,5 @@
 -- Retiring free methods, and a sweep, keep a state sound, with the same numbers and the same done edges.
-use Rattle.std.specs.Prelude.{◌⊎◌, ℕ}
+use Rattle.std.specs.Prelude.{◌↔◌, ◌⊎◌, ℕ}
 use Rattle.std.proofs.Common.{arith, sym, subst, inl, inr}
 use Rattle.clean_base.specs.declared.ids.MethodId.{MethodId}
 use Rattle.clean_base.specs.declared.ids.StmtId.{StmtId}
@@ -187,3 +187,15 @@ module _ {F M : Type 0} (P : Machine F M) (method_of : StmtId → MethodId) (rea
         subst (KeepsLag reaches) (sym d.rest) (record { within = omega arith; swept = λ zero m freed. none m freed }),
         subst (λ (s : View F M). (m : MethodId) → IsFreed reaches s m → ⊥) (sym d.rest) none,
       )
+
+  -- and what is done stays as it is
+  pub retire_done : (m : MethodId) (new : View F M) → Retires reaches m old new → (a : Frame F) → IsDone P old a ↔ IsDone P new a
+  retire_done m new (inr same) a = subst (λ (s : View F M). IsDone P old a ↔ IsDone P s a) (sym same.1) ((λ d. d), (λ d. d))
+  retire_done m new (inl drops) a =
+      let q = free_quiet P method_of reaches law old m drops.0 in
+      subst (λ (s : View F M). IsDone P old a ↔ IsDone P s a) (sym drops.1.rest) (done_there (λ n. reaches m n) q old.lag new drops.1 a, done_back (λ n. reaches m n) q old.lag new drops.1 a)
+
+  pub sweep_done : (new : View F M) → Sweeps reaches old new → (a : Frame F) → IsDone P old a ↔ IsDone P new a
+  sweep_done new d a =
+      let q = swept_quiet P method_of reaches law old in
+      subst (λ (s : View F M). IsDone P old a ↔ IsDone P s a) (sym d.rest) (done_there (IsSwept reaches old) q 0 new d a, done_back (IsSwept reaches old) q 0 new d a)
