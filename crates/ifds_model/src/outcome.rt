@@ -27,18 +27,21 @@ impl<'a, P: Problem> Model for Outcome<'a, P> {
 }
 
 impl<'a, P: Problem> Outcome<'a, P> {
+    /// The problem that `work` was given, for its whole life.
     pub fn problem(&self) -> &'a P
         ensures { result.now ≡ self.now.problem }
     {
         self.problem
     }
 
+    /// The item that `work` was given.
     pub fn item(&self) -> Item<P::Fact>
         ensures { result ≡ self.now.item }
     {
         self.item
     }
 
+    /// The item's moves in no order, perhaps with repeats.
     pub fn moves(&self) -> &[Move<P::Fact, P::Mark>]
         ensures kept { result.now ≡ self.now.moves }
         ensures exact { AreMovesOf (P.machine self.now.problem) self.now.item result.now }
@@ -75,6 +78,7 @@ fn join_moves<P: Problem>(
     Ok(moves)
 }
 
+// The moves of an item of either kind.
 fn moves_of<P: Problem>(
     alloc: Global,
     problem: &P,
