@@ -1,7 +1,7 @@
 -- The central fact of dropping edges: where no method that one method reaches has a pending item, the held edges of each
 -- live known context of these methods are exactly its edges. And with nothing pending at all, a sound state has exactly
 -- the machine's edges, contexts and leaks.
-use Rattle.std.specs.Prelude.{◌≡◌, ◌≢◌, ◌↔◌, true, false, List, [], ◌∷◌}
+use Rattle.std.specs.Prelude.{◌<◌, ℕ, ◌≡◌, ◌≢◌, ◌↔◌, true, false, List, [], ◌∷◌}
 use Rattle.std.proofs.Common.{sym, ◌∙◌, ap, subst, inl, inr, refl}
 use Rattle.clean_base.specs.declared.ids.MethodId.{MethodId}
 use Rattle.clean_base.specs.declared.ids.StmtId.{StmtId}
@@ -19,7 +19,7 @@ use Rattle.ifds_model.specs.State.{View, Known, IsTidy, at_node, edge_item, cont
 use Rattle.ifds_model.specs.Sound.{IsSound, IsTaken, IsFound, IsDone}
 use Rattle.ifds_model.specs.Free.{IsFree}
 use Rattle.ifds_model.specs.Events.{IsSwept}
-use Rattle.ifds_model.specs.Laws.{IsLawful}
+use Rattle.ifds_model.specs.Laws.{IsLawful, IsWithin}
 use Rattle.ifds_model.proofs.Members.{one_or_pair, same_count}
 
 module _ {F M : Type 0} where
@@ -31,6 +31,11 @@ module _ {F M : Type 0} where
   ]
 
   module _ (P : Machine F M) (method_of : StmtId → MethodId) (reaches : MethodId → MethodId → Type 0) (law : IsLawful P method_of reaches) where
+    -- each context of the machine is one of a method
+    pub context_within : (methods : ℕ) → IsWithin P method_of methods → (e : Context F) → IsContext P e → e.method.0 < methods
+    context_within methods w e (inl root) = subst (λ (d : Context F). d.method.0 < methods) (sym root) w.root
+    context_within methods w e (inr caller) = w.called caller.0.node caller.0.fact caller.1 e caller.3
+
     -- what a context reaches by itself stands in its method
     pub local_inside : {e : Context F} {n : Node} {f : F} → Local P e n f → method_of n.stmt ≡ e.method
     local_inside (starts {e} {n} start) = law.starts_inside e n start

@@ -1,5 +1,5 @@
 -- What a machine owes over its methods: the laws of the trait `Problem`, gathered for lemmas about machines.
-use Rattle.std.specs.Prelude.{◌≡◌, ◌↔◌}
+use Rattle.std.specs.Prelude.{◌≡◌, ◌↔◌, ◌<◌, ℕ}
 use Rattle.clean_base.specs.declared.ids.MethodId.{MethodId}
 use Rattle.clean_base.specs.declared.ids.StmtId.{StmtId}
 use Rattle.ifds_model.specs.declared.node.Context.{Context}
@@ -23,3 +23,9 @@ pub record IsLawful {F M : Type 0} (P : Machine F M) (method_of : StmtId → Met
   -- each method reaches itself, and what those reach that it reaches
   pub reaches_itself : (m : MethodId) → reaches m m
   pub reaches_on : (l m n : MethodId) → reaches l m → reaches m n → reaches l n
+
+-- all methods of statements and contexts are below their number
+pub record IsWithin {F M : Type 0} (P : Machine F M) (method_of : StmtId → MethodId) (methods : ℕ) : Type 0 where
+  pub root : P.root.method.0 < methods
+  pub stmts : (s : StmtId) → (method_of s).0 < methods
+  pub called : (n : Node) (f : F) (at : StmtId) (e : Context F) → P.step n f (Call at e) → e.method.0 < methods

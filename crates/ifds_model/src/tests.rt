@@ -1,6 +1,6 @@
 // The moves of each kind of item, in a small problem whose machine `specs/Example.antt` gives.
 ghost use Rattle.std.specs.Prelude.{◌≡◌, ◌↔◌, IfSome, IfNone};
-ghost use Rattle.ifds_model.specs.Laws.{IsLawful};
+ghost use Rattle.ifds_model.specs.Laws.{IsLawful, IsWithin};
 ghost use Rattle.ifds_model.specs.Example.{before, entered, Step};
 
 use crate::{Context, Dir, Item, Move, Node, Problem, work};
@@ -150,7 +150,8 @@ impl Problem for Example {
 
 // Every problem has the laws that the lemmas about solvers ask for.
 fn lawful<P: Problem>(_problem: &P)
-    ensures { IsLawful (P.machine _problem.now) (P.method_of _problem.now) (P.reaches _problem.now) }
+    ensures laws { IsLawful (P.machine _problem.now) (P.method_of _problem.now) (P.reaches _problem.now) }
+    ensures within { IsWithin (P.machine _problem.now) (P.method_of _problem.now) (P.methods _problem.now) }
 {}
 
 const fn edge(method: u32, stmt: u32, fact: u16) -> Item<LocalId> {

@@ -1,8 +1,8 @@
 -- The laws of the trait, gathered.
 use Rattle.ifds_model.proofs.tests.lawful.Goals as goal
 
-pub returns : goal.returns
-returns g c =
+pub returns-clause-laws : goal.returns-clause-laws
+returns-clause-laws g c =
     let p = c.args._problem.now in
     record {
       one_start = g.met.P.Problem.one_start p;
@@ -15,3 +15,8 @@ returns g c =
       reaches_itself = g.met.P.Problem.reaches_itself p;
       reaches_on = g.met.P.Problem.reaches_on p;
     }
+
+pub returns-clause-within : goal.returns-clause-within
+returns-clause-within g c =
+    let p = c.args._problem.now in
+    record { root = g.met.P.Problem.root_within p; stmts = g.met.P.Problem.stmt_within p; called = g.met.P.Problem.called_within p }
