@@ -1,0 +1,24 @@
+use Rattle.std.proofs.Common.{◌≡◌, ◌∷◌, ◌++◌, [], ℕ, List, ap, ◌∙◌}
+use Rattle.entry_tables.specs.Tables.{Tables}
+use Rattle.ifds_model.specs.declared.node.Context.{Context}
+use Rattle.solver_core.specs.Numbers.{context_at}
+use Rattle.solver_core.proofs.Unknown.{context_new, context_kept, unknown_taken, not_known}
+use Rattle.solver_core.proofs.moves.take_unknown.Goals as goal
+
+pub returns-clause-taken : goal.returns-clause-taken
+returns-clause-taken g c = λ commits lag takes period max_edges.
+    let machine = (g.P.Problem.machine c.args.problem.now) in
+    let cs = c.args.parts.now.tables.contexts in
+    let d = c.args.callee in
+    let number = c.open_context-number.result in
+    let opened = c.open_context-number.ensures in
+    let started = c.take_starts.ensures in
+    let at_d : context_at machine.root c.open_context-number.new.parts.tables.contexts number ≡ d =
+    ap (λ (x : List (Context g.row.P-Fact.Denot)). context_at machine.root x number) opened.contexts ∙ ap (λ (n : ℕ). context_at machine.root (cs ++ d ∷ []) n) opened.number ∙ context_new machine.root cs d in
+    let at_e : context_at machine.root c.open_context-number.new.parts.tables.contexts c.args.context ≡ context_at machine.root cs c.args.context =
+    ap (λ (x : List (Context g.row.P-Fact.Denot)). context_at machine.root x c.args.context) opened.contexts ∙ context_kept machine.root cs d c.args.context c.requires.known in
+    unknown_taken machine (context_at machine.root cs c.args.context) d c.args.at c.args.starts.now c.requires.starts _ _ _ _ (not_known cs d c.requires.unknown) (opened.opened commits lag takes period max_edges)
+    (context_at machine.root c.open_context-number.new.parts.tables.contexts number) at_d
+    (context_at machine.root c.take_starts.new.parts.tables.contexts c.args.context) (ap (λ (t : Tables g.row.P-Fact.Denot). context_at machine.root t.contexts c.args.context) started.tables ∙ at_e)
+    (context_at machine.root c.take_starts.new.parts.tables.contexts number) (ap (λ (t : Tables g.row.P-Fact.Denot). context_at machine.root t.contexts number) started.tables ∙ at_d)
+    (started.taken commits lag takes period max_edges) (c.take_known.ensures.taken commits lag takes period max_edges)

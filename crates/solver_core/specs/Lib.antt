@@ -1,0 +1,8 @@
+pub mod Exact
+pub mod Store
+pub mod Numbers
+pub mod Hands
+pub mod Joins
+pub mod Seen
+pub mod Answers
+pub mod Gathered

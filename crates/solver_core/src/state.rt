@@ -1,0 +1,183 @@
+// The solver's state: the events that it goes through, and what it answers once nothing is left to do.
+ghost use Rattle.std.specs.Prelude.{◌≡◌, ◌≢◌, ◌↔◌, ◌<◌, ◌≤◌, ◌+◌, ◌-◌, ◌^◌, ℕ, length, IsTrue, Contains, IfOk, OnOk, OnErr, IfErr, Some, None};
+ghost use Rattle.std.specs.List.Sorted.{IsStrictlySortedBy};
+ghost use Rattle.ifds_model.specs.Runs.{IsEdge, IsContext, IsLeak, HasCount, Lists};
+ghost use Rattle.ifds_model.specs.State.{At};
+ghost use Rattle.ifds_model.specs.Events.{IsOpened, Takes, GivesBack};
+ghost use Rattle.solver_core.specs.Seen.{IsRight};
+ghost use Rattle.solver_core.specs.Answers.{IsOver, IsIdle};
+ghost use Rattle.solver_core.specs.declared.answer.Taken.TheVariants.{Took, Idle, Finished};
+
+use crate::answer::{Answer, Job, Taken};
+use crate::marks::in_order;
+use crate::parts::{Parts, first_parts, first_start, named};
+use crate::work::{hand_back, hand_out, next_work, out_of, queue_work};
+use ifds_model::Problem;
+use std::alloc::{AllocError, Global};
+use std::marker::Model;
+
+/// A solver's state (docs/SOLVER.md, "State"). Contracts see the problem and its `View`.
+#[derive(Drop)]
+pub struct State<'a, P: Problem> {
+    problem: &'a P,
+    parts: Parts<P::Fact, P::Mark>,
+    commits: u64,
+    lag: u64,
+    takes: u64,
+    period: u64,
+    max_edges: u64,
+}
+
+impl<'a, P: Problem> Model for State<'a, P> {
+    ghost use Rattle.std.specs.Prelude.{◌≤◌};
+    ghost use Rattle.ifds_model.specs.State.{Seen};
+    ghost use Rattle.solver_core.specs.Seen.{view_of_parts, AreNumbered, IsRight};
+
+    ghost Value = { Seen P P.Fact P.Mark };
+
+    ghost view = { λ s. record { problem = s.problem.now; view = view_of_parts (P.machine s.problem.now) s.parts s.commits s.lag s.takes s.period s.max_edges } };
+
+    ghost invariant = { λ s. (1 ≤ s.period) × AreNumbered s.parts × IsRight (P.machine s.problem.now) (P.reaches s.problem.now) (view_of_parts (P.machine s.problem.now) s.parts s.commits s.lag s.takes s.period s.max_edges) };
+}
+
+impl<'a, P: Problem> State<'a, P> {
+    /// A state that knows the root alone, with its start to do. A sweep is due at a lag of `period`.
+    pub fn open(
+        alloc: Global,
+        problem: &'a P,
+        period: u64,
+        max_edges: u64,
+        workers: u32,
+    ) -> Result<State<'a, P>, AllocError>
+        requires period { (1 ≤ period) × (period ≤ 1000000) }
+        requires limit { (1 ≤ max_edges) × (max_edges ≤ 2 ^ 64 - 2) }
+        requires workers { workers ≡ 1 }
+        ensures problem { IfOk result (λ s. s.problem ≡ problem.now) }
+        ensures opened { IfOk result (λ s. IsOpened (P.machine problem.now) period max_edges workers s.view) }
+    {
+        let root = problem.root();
+        let node = first_start(alloc, problem, &root)?;
+        let parts = first_parts(alloc, root, node, workers)?;
+        Ok(State {
+            problem,
+            parts,
+            commits: 0,
+            lag: 0,
+            takes: 0,
+            period,
+            max_edges,
+        })
+    }
+
+    /// The problem that it was opened for.
+    pub fn problem(&self) -> &'a P
+        ensures { result.now ≡ self.now.problem }
+    {
+        self.problem
+    }
+
+    /// The number of workers that it was opened for.
+    pub fn workers(&self) -> u32
+        ensures { result ≡ length self.now.view.flights }
+    {
+        self.parts.flights.len() as u32
+    }
+
+    /// Whether a worker has an item in hand.
+    pub fn has_flight(&self, w: u32) -> bool
+        requires { w < length self.now.view.flights }
+        ensures { IsTrue result ↔ (At self.now.view.flights w None → ⊥) }
+    {
+        self.parts.flights[w as usize].is_some()
+    }
+
+    /// How many items wait.
+    pub fn queued(&self) -> u64
+        ensures { result ≡ length self.now.view.queue }
+    {
+        self.parts.queue.len() as u64
+    }
+
+    /// How many edges were committed.
+    pub fn commits(&self) -> u64
+        ensures { result ≡ self.now.view.commits }
+    {
+        self.commits
+    }
+
+    /// How many edges were ever held.
+    pub fn found(&self) -> u64
+        ensures count { result ≡ self.now.view.found }
+        ensures right { IsRight (P.machine self.now.problem) (P.reaches self.now.problem) self.now.view }
+    {
+        self.parts.edges.len()
+    }
+
+    /// A worker takes the first item, where one waits.
+    pub fn take(&mut self, w: u32, place: u64) -> Taken<P>
+        requires idle { At self.old.view.flights w None }
+        requires first { place ≡ 0 }
+        ensures problem { self.new.problem ≡ self.old.problem }
+        ensures took { (job : _) → result ≡ Took job → Takes w place self.old.view self.new.view × At self.old.view.queue place job.item × (job.take ≡ self.new.view.takes) }
+        ensures idle { (n : ℕ) → result ≡ Idle n → IsIdle self.old.view n × (self.new.view ≡ self.old.view) }
+        ensures finished { result ≡ Finished → IsOver self.old.view × (self.new.view ≡ self.old.view) }
+    {
+        let Some(work) = next_work(&mut self.parts.queue) else {
+            return waiting(out_of(self.parts.flights.as_slice()));
+        };
+        hand_out(&mut self.parts.flights, w, work);
+        self.takes = self.takes.saturating_add(1);
+        Taken::Took(Job {
+            item: named(&self.parts.tables, work),
+            take: self.takes,
+        })
+    }
+
+    /// A worker's item goes to the end of the queue.
+    pub fn give_back(&mut self, w: u32)
+        requires below { w < length self.old.view.flights }
+        requires flies { At self.old.view.flights w None → ⊥ }
+        ensures problem { self.new.problem ≡ self.old.problem }
+        ensures event { GivesBack w self.old.view self.new.view }
+    {
+        if let Some(work) = hand_back(&mut self.parts.flights, w) {
+            queue_work(&mut self.parts.queue, work);
+        }
+    }
+
+    /// What was found, where nothing is left to do: the leaks in order, the numbers of edges and of contexts, and as
+    /// many commits as edges.
+    pub fn into_answer(self) -> Result<Answer<P>, AllocError>
+        requires over { IsOver self.view }
+        ensures sorted { IfOk result (λ a. IsStrictlySortedBy P.Mark.cmp a.marks.items) }
+        ensures leaks { IfOk result (λ a. Lists (IsLeak (P.machine self.entry.problem)) a.marks.items) }
+        ensures edges { IfOk result (λ a. HasCount (IsEdge (P.machine self.entry.problem)) a.edges) }
+        ensures contexts { IfOk result (λ a. HasCount (IsContext (P.machine self.entry.problem)) a.contexts) }
+        ensures commits { IfOk result (λ a. a.commits ≡ a.edges) }
+    {
+        let commits = self.commits;
+        let parts = self.parts;
+        let contexts = parts.tables.contexts();
+        let edges = parts.edges.len();
+        let marks = in_order(parts.marks)?;
+        Ok(Answer {
+            marks,
+            edges,
+            contexts,
+            commits,
+        })
+    }
+}
+
+// What is left to do where nothing waits.
+fn waiting<P: Problem>(in_flight: u32) -> Taken<P>
+    ensures took { (job : _) → result ≡ Took job → ⊥ }
+    ensures idle { (n : ℕ) → result ≡ Idle n → (1 ≤ n) × (n ≡ in_flight) }
+    ensures finished { result ≡ Finished → in_flight ≡ 0 }
+{
+    if in_flight == 0 {
+        Taken::Finished
+    } else {
+        Taken::Idle { in_flight }
+    }
+}
