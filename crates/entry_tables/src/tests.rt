@@ -2,7 +2,7 @@
 use crate::{Caller, EntryTables};
 use clean_base::{FieldId, MethodId, StmtId};
 use ifds_model::{Context, Dir};
-use std::alloc::AllocError;
+use std::alloc::{AllocError, Global};
 use std::test::Fail;
 
 type Tables = EntryTables<FieldId>;
@@ -63,8 +63,17 @@ fn exit(tables: &Tables, context: u64, at: u64) -> Option<FieldId> {
     }
 }
 
+// Tables of three contexts.
+fn three(alloc: Global) -> Result<Tables, AllocError> {
+    let mut tables = EntryTables::new(alloc);
+    for method in [5, 3, 9] {
+        number(&mut tables, context(method))?;
+    }
+    Ok(tables)
+}
+
 #[test]
-fn entries_are_read_in_the_order_of_adding(rt: HostRuntime) -> Result<(), Fail> {
+fn contexts_are_numbered_in_the_order_of_opening(rt: HostRuntime) -> Result<(), Fail> {
     let mut tables = EntryTables::new(rt.alloc());
     for (method, want) in [(5, 0), (3, 1), (5, 0), (9, 2), (3, 1)] {
         assert_eq!(rt; number(&mut tables, context(method))?, want, "of {method}");
@@ -72,6 +81,13 @@ fn entries_are_read_in_the_order_of_adding(rt: HostRuntime) -> Result<(), Fail> 
     assert_eq!(rt; tables.contexts(), 3);
     assert_eq!(rt; tables.known(&context(9)), Some(2));
     assert_eq!(rt; tables.known(&context(4)), None);
+    Ok(())
+}
+
+// More callers than a short list has.
+#[test]
+fn callers_are_read_in_the_order_of_adding(rt: HostRuntime) -> Result<(), Fail> {
+    let mut tables = three(rt.alloc())?;
     for at in 0..20u32 {
         assert_eq!(rt; call(&mut tables, 1, 2, 40 - at)?, Some(true), "first {at}");
         assert_eq!(rt;
@@ -80,7 +96,6 @@ fn entries_are_read_in_the_order_of_adding(rt: HostRuntime) -> Result<(), Fail> 
             "again {at}"
         );
     }
-    assert_eq!(rt; call(&mut tables, 0, 2, 40)?, Some(true));
     assert_eq!(rt; call(&mut tables, 1, 0, 40)?, Some(true));
     for (at, want) in [
         (0, Some((2, 40))),
@@ -92,6 +107,12 @@ fn entries_are_read_in_the_order_of_adding(rt: HostRuntime) -> Result<(), Fail> 
         let seen = caller(&tables, 1, at).map(|c| (c.caller, c.call.0));
         assert_eq!(rt; seen, want, "caller {at}");
     }
+    Ok(())
+}
+
+#[test]
+fn exits_are_read_in_the_order_of_adding(rt: HostRuntime) -> Result<(), Fail> {
+    let mut tables = three(rt.alloc())?;
     for (context, fact, want) in [(2, 6, true), (0, 6, true), (2, 1, true), (2, 6, false)] {
         assert_eq!(rt;
             leave(&mut tables, context, fact)?,
