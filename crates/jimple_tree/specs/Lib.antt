@@ -4,3 +4,4 @@ pub mod Labels
 pub mod Operands
 pub mod Statements
 pub mod Canonical
+pub mod Bodies

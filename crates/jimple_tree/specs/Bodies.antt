@@ -1,0 +1,30 @@
+-- Classes of methods with bodies, and their statements in order. Well formed classes stand below.
+use Rattle.std.specs.Prelude.{◌≡◌, ◌≤◌, List, [], length, Option, Some, None, All, flat_map}
+use Rattle.jimple_tree.specs.WellFormed.{IsWellFormed}
+use Rattle.jimple_tree.specs.declared.tree.Body.{Body}
+use Rattle.jimple_tree.specs.declared.tree.Class.{Class}
+use Rattle.jimple_tree.specs.declared.tree.Method.{Method}
+use Rattle.jimple_tree.specs.declared.tree.Stmt.{Stmt}
+
+-- the statements of a method; without a body it has none
+abbrev pub body_stmts : Option Body → List Stmt
+body_stmts None = []
+body_stmts (Some body) = body.stmts
+
+abbrev pub stmts_of : Method → List Stmt
+stmts_of m = body_stmts m.body
+
+-- the statements of the methods, one method after another
+abbrev pub all_stmts : List Method → List Stmt
+all_stmts methods = flat_map stmts_of methods
+
+-- the method has a body
+abbrev pub HasBody : Method → Type 0
+HasBody m = (body : Body) × (m.body ≡ Some body)
+
+-- a well formed class, each of whose methods has a body, within the limits on methods and statements
+pub record IsOfBodies (c : Class) : Type 0 where
+  pub well_formed : IsWellFormed c
+  pub bodies : All HasBody c.methods
+  pub methods : length c.methods ≤ 32768
+  pub statements : length (all_stmts c.methods) ≤ 4194304
