@@ -1,0 +1,5 @@
+pub mod Appended
+pub mod Locals
+pub mod Params
+pub mod Parts
+pub mod Steps

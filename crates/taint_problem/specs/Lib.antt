@@ -1,0 +1,7 @@
+pub mod Code
+pub mod Flow
+pub mod Laws
+pub mod Machine
+pub mod Moves
+pub mod Only
+pub mod Sample
