@@ -1,4 +1,10 @@
 mod Flown
+mod Used
+mod RoomLeft
+mod Prepared
+mod MovesTaken
+pub mod Counted
+mod Landed
 mod First
 mod Moved
 mod Opened

@@ -6,3 +6,4 @@ pub mod Joins
 pub mod Seen
 pub mod Answers
 pub mod Gathered
+pub mod Room

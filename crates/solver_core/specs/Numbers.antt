@@ -66,6 +66,11 @@ abbrev pub IsWithin : {F : Type 0} → ℕ → Work F → Type 0
 IsWithin n (WorkEdge c m f) = c < n
 IsWithin n (WorkJoin c at k x) = (c < n) × (k < n)
 
+-- the number of the context in which a work is done
+abbrev pub place : {F : Type 0} → Work F → ℕ
+place (WorkEdge c m f) = c
+place (WorkJoin c at k x) = c
+
 -- each number is a context's
 pub record AreNumbers {F : Type 0} (contexts : List (Context F)) (callers : List (List Caller)) (exits : List (List F)) (edges : List (Spot F)) (queue : List (Work F)) (flights : List (Option (Work F))) : Type 0 where
   pub workers : length flights < 2 ^ 32

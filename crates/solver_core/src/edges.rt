@@ -1,9 +1,11 @@
-// The held edges, as a set. A plain list for now: what stands above sees members alone.
-ghost use Rattle.std.specs.Prelude.{◌≡◌, ◌≤◌, ◌<◌, ◌+◌, ◌-◌, ◌++◌, ◌∷◌, [], IsTrue, false, length, Contains, OnOk, vec_len, vec_capacity};
+// The held edges, as a set: what stands above sees members alone.
+ghost use Rattle.std.specs.Prelude.{◌≡◌, ◌≤◌, ◌<◌, ◌+◌, ◌++◌, ◌∷◌, [], IsTrue, false, length, Contains, OnOk};
 ghost use Rattle.solver_core.specs.Store.{spot};
 
+use crate::sets::{add_once, has_item};
 use clean_base::Plain;
 use ifds_model::Node;
+use indexmap::IndexSet;
 use std::alloc::{AllocError, Global};
 use std::marker::Model;
 
@@ -25,16 +27,16 @@ impl<F: Plain> Plain for Spot<F> {
 /// A set of edges.
 #[derive(Drop)]
 pub struct EdgeStore<F: Plain> {
-    spots: Vec<Spot<F>>,
+    spots: IndexSet<Spot<F>>,
 }
 
 impl<F: Plain> Model for EdgeStore<F> {
-    ghost use Rattle.std.specs.Prelude.{◌-◌, vec_len, vec_capacity};
+    ghost use Rattle.indexmap.specs.IndexSet.{spare};
     ghost use Rattle.solver_core.specs.Store.{Store};
 
     ghost Value = { Store F };
 
-    ghost view = { λ s. record { edges = s.spots.items; spare = vec_capacity s.spots - vec_len s.spots } };
+    ghost view = { λ s. record { edges = s.spots.keys; spare = spare s.spots } };
 }
 
 impl<F: Plain> EdgeStore<F> {
@@ -42,7 +44,7 @@ impl<F: Plain> EdgeStore<F> {
         ensures { result.edges ≡ [] }
     {
         EdgeStore {
-            spots: Vec::new(alloc),
+            spots: IndexSet::new(alloc),
         }
     }
 
@@ -58,8 +60,8 @@ impl<F: Plain> EdgeStore<F> {
         ensures yes { IsTrue result → Contains self.now.edges (spot context node fact) }
         ensures no { result ≡ false → ¬ Contains self.now.edges (spot context node fact) }
     {
-        has_spot(
-            self.spots.as_slice(),
+        has_item(
+            &self.spots,
             &Spot {
                 context,
                 node,
@@ -91,31 +93,6 @@ impl<F: Plain> EdgeStore<F> {
             node,
             fact,
         };
-        add_spot(&mut self.spots, spot)
-    }
-}
-
-fn has_spot<T: Plain>(spots: &[T], spot: &T) -> bool
-    ensures yes { IsTrue result → Contains spots.now spot.now }
-    ensures no { result ≡ false → ¬ Contains spots.now spot.now }
-{
-    spots.contains(spot)
-}
-
-// Adds an edge at the end where it is not there yet.
-fn add_spot<T: Plain>(spots: &mut Vec<T>, spot: T) -> bool
-    requires { vec_len spots.old < vec_capacity spots.old }
-    ensures is_new { IsTrue result → ¬ Contains spots.old.items spot }
-    ensures added { IsTrue result → spots.new.items ≡ spots.old.items ++ spot ∷ [] }
-    ensures was { result ≡ false → Contains spots.old.items spot }
-    ensures same { result ≡ false → spots.new.items ≡ spots.old.items }
-    ensures room { vec_capacity spots.old - vec_len spots.old ≤ vec_capacity spots.new - vec_len spots.new + 1 }
-{
-    if has_spot(spots.as_slice(), &spot) {
-        return false;
-    }
-    match spots.push(spot) {
-        Ok(()) => true,
-        Err(_) => unreachable!(),
+        add_once(&mut self.spots, spot)
     }
 }

@@ -5,10 +5,15 @@
 
 pub mod answer;
 mod edges;
+mod intake;
 mod limit;
 mod marks;
 mod moves;
 mod parts;
+mod prepare;
+mod ready;
+mod room;
+mod sets;
 pub mod state;
 mod work;
 

@@ -1,14 +1,15 @@
 // How many edges moves would add, counted before anything changes: so a commit that is refused for the limit leaves
 // the state as it was. The parts stand below, a commit above.
-ghost use Rattle.std.specs.Prelude.{◌≡◌, ◌≤◌, ◌<◌, ◌+◌, ◌++◌, ◌∷◌, [], ℕ, IsTrue, false, length, Contains, IfOk, OnOk};
-ghost use Rattle.indexmap.specs.IndexSet.{spare};
+ghost use Rattle.std.specs.Prelude.{◌≡◌, ◌≤◌, ◌<◌, ◌+◌, ◌-◌, ◌^◌, ◌++◌, ◌∷◌, [], ℕ, IsTrue, false, length, Contains, IfOk, OnOk, IfErr};
 ghost use Rattle.ifds_model.specs.declared.node.Move.TheVariants.{Go, Call};
 ghost use Rattle.ifds_model.specs.Runs.{opened, HasCount};
-ghost use Rattle.solver_core.specs.Gathered.{Gathers, IsOfEach, IsNew, IsNewTo};
+ghost use Rattle.solver_core.specs.Gathered.{Gathers, IsOfEach, IsNew, IsNewTo, KeepsWithin, IsPassed};
 ghost use Rattle.solver_core.specs.Numbers.{context_at};
 ghost use Rattle.solver_core.specs.Seen.{AreFit, view_of_parts};
 
+use crate::answer::CommitStop;
 use crate::parts::Parts;
+use crate::sets::add_once;
 use clean_base::{Plain, StmtId};
 use ifds_model::{Context, Frame, Move, Node, Problem};
 use indexmap::IndexSet;
@@ -41,6 +42,37 @@ pub fn passes_limit(found: u64, more: u64, max_edges: u64) -> bool
         Some(sum) => max_edges < sum,
         None => true,
     }
+}
+
+/// Refuses moves whose new edges pass the limit. They are counted only where the most that there may be passes it.
+pub fn keep_limit<P: Problem>(
+    alloc: Global,
+    problem: &P,
+    parts: &Parts<P::Fact, P::Mark>,
+    context: u64,
+    moves: &[Move<P::Fact, P::Mark>],
+    most: u64,
+    max_edges: u64,
+) -> Result<(), CommitStop>
+    requires fit { AreFit parts.now }
+    requires known { context < length parts.now.tables.contexts }
+    requires limit { max_edges ≤ 2 ^ 64 - 2 }
+    ensures within { OnOk result (KeepsWithin (P.machine problem.now) parts.now context moves.now most max_edges) }
+    ensures stopped { IfErr result (λ e. IsPassed (P.machine problem.now) parts.now context moves.now max_edges e) }
+{
+    let found = parts.edges.len();
+    if !passes_limit(found, most, max_edges) {
+        return Ok(());
+    }
+    let Ok(more) = new_edges(alloc, problem, parts, context, moves) else {
+        return Err(CommitStop::OutOfMemory);
+    };
+    if passes_limit(found, more, max_edges) {
+        return Err(CommitStop::EdgeLimit {
+            found: max_edges + 1,
+        });
+    }
+    Ok(())
 }
 
 // Gathers the new edges of moves.
@@ -155,20 +187,6 @@ fn gather<T: Plain>(items: &mut IndexSet<T>, item: T) -> Result<(), AllocError>
     ensures { OnOk result (Gathers (λ x. x ≡ item) items.old.keys items.new.keys) }
 {
     items.reserve(1)?;
-    insert_once(items, item);
+    add_once(items, item);
     Ok(())
-}
-
-// Adds an item where it is not there yet, and tells whether it is new.
-fn insert_once<T: Plain>(items: &mut IndexSet<T>, item: T) -> bool
-    requires { 0 < spare items.old }
-    ensures is_new { IsTrue result → ¬ Contains items.old.keys item }
-    ensures added { IsTrue result → items.new.keys ≡ items.old.keys ++ item ∷ [] }
-    ensures was { result ≡ false → Contains items.old.keys item }
-    ensures same { result ≡ false → items.new.keys ≡ items.old.keys }
-{
-    match items.insert(item) {
-        Ok(added) => added,
-        Err(_) => unreachable!(),
-    }
 }

@@ -5,10 +5,10 @@ ghost use Rattle.std.specs.VecDeque.{deque_len, deque_capacity};
 ghost use Rattle.ifds_model.specs.declared.node.Node.{Node};
 ghost use Rattle.ifds_model.specs.declared.node.Move.TheVariants.{Go, Call, Exit, Mark};
 ghost use Rattle.ifds_model.specs.State.{IsDistinct};
-ghost use Rattle.entry_tables.specs.Lists.{KeepsRoom};
 ghost use Rattle.entry_tables.specs.Tables.{callers_of, exits_of};
 ghost use Rattle.solver_core.specs.Joins.{exit_join, call_join};
 ghost use Rattle.solver_core.specs.Numbers.{context_at};
+ghost use Rattle.solver_core.specs.Room.{Uses};
 ghost use Rattle.solver_core.specs.Seen.{AreFit, TakesInParts, OpensInParts, GoesTo};
 
 use crate::parts::Parts;
@@ -35,6 +35,7 @@ pub fn take_go<P: Problem>(
     ensures tables { parts.new.tables ≡ parts.old.tables }
     ensures flights { parts.new.flights ≡ parts.old.flights }
     ensures marks { parts.new.marks ≡ parts.old.marks }
+    ensures held { length parts.new.edges.edges ≤ length parts.old.edges.edges + 1 }
     ensures edge_room { parts.old.edges.spare ≤ parts.new.edges.spare + 1 }
     ensures queue_len { deque_len parts.new.queue ≤ deque_len parts.old.queue + 1 }
     ensures queue_room { deque_capacity parts.new.queue ≡ deque_capacity parts.old.queue }
@@ -116,8 +117,7 @@ pub fn take_exit<P: Problem>(
     requires queue { deque_len parts.old.queue + length (callers_of parts.old.tables context) ≤ deque_capacity parts.old.queue }
     ensures fit { AreFit parts.new }
     ensures taken { TakesInParts (P.machine problem.now) context (λ m. m ≡ Exit exit) parts.old parts.new }
-    ensures contexts { parts.new.tables.contexts ≡ parts.old.tables.contexts }
-    ensures callers { parts.new.tables.callers ≡ parts.old.tables.callers }
+    ensures uses { Uses 0 1 parts.old.tables parts.new.tables }
     ensures flights { parts.new.flights ≡ parts.old.flights }
     ensures edges { parts.new.edges ≡ parts.old.edges }
     ensures marks { parts.new.marks ≡ parts.old.marks }
@@ -173,8 +173,7 @@ pub fn take_known<P: Problem>(
     requires queue { deque_len parts.old.queue + length (exits_of parts.old.tables callee) ≤ deque_capacity parts.old.queue }
     ensures fit { AreFit parts.new }
     ensures taken { TakesInParts (P.machine problem.now) context (λ m. m ≡ Call at (context_at (P.machine problem.now).root parts.old.tables.contexts callee)) parts.old parts.new }
-    ensures contexts { parts.new.tables.contexts ≡ parts.old.tables.contexts }
-    ensures exits { parts.new.tables.exits ≡ parts.old.tables.exits }
+    ensures uses { Uses 0 1 parts.old.tables parts.new.tables }
     ensures flights { parts.new.flights ≡ parts.old.flights }
     ensures edges { parts.new.edges ≡ parts.old.edges }
     ensures marks { parts.new.marks ≡ parts.old.marks }
@@ -201,10 +200,7 @@ pub fn open_context<P: Problem>(
     ensures exits { parts.new.tables.exits ≡ parts.old.tables.exits ++ [] ∷ [] }
     ensures opened { OpensInParts (P.machine problem.now) context parts.old parts.new }
     ensures ready { parts.old.tables.first_callers ≤ slice_index parts.new.tables.spare_callers result }
-    ensures spare { parts.old.tables.spare_contexts ≤ parts.new.tables.spare_contexts + 1 }
-    ensures first { parts.new.tables.first_callers ≡ parts.old.tables.first_callers }
-    ensures spare_callers { KeepsRoom parts.old.tables.spare_callers parts.new.tables.spare_callers }
-    ensures spare_exits { KeepsRoom parts.old.tables.spare_exits parts.new.tables.spare_exits }
+    ensures uses { Uses 1 0 parts.old.tables parts.new.tables }
     ensures rest { (parts.new.edges ≡ parts.old.edges) × (parts.new.queue ≡ parts.old.queue) × (parts.new.flights ≡ parts.old.flights) × (parts.new.marks ≡ parts.old.marks) }
 {
     parts.tables.open_context(context)
@@ -227,6 +223,7 @@ fn take_starts<P: Problem>(
     ensures tables { parts.new.tables ≡ parts.old.tables }
     ensures flights { parts.new.flights ≡ parts.old.flights }
     ensures marks { parts.new.marks ≡ parts.old.marks }
+    ensures held { length parts.new.edges.edges ≤ length parts.old.edges.edges + length starts.now }
     ensures edge_room { parts.old.edges.spare ≤ parts.new.edges.spare + length starts.now }
     ensures queue_len { deque_len parts.new.queue ≤ deque_len parts.old.queue + length starts.now }
     ensures queue_room { deque_capacity parts.new.queue ≡ deque_capacity parts.old.queue }
@@ -255,6 +252,13 @@ pub fn take_unknown<P: Problem>(
     requires queue { deque_len parts.old.queue + length starts.now ≤ deque_capacity parts.old.queue }
     ensures fit { AreFit parts.new }
     ensures taken { TakesInParts (P.machine problem.now) context (λ m. m ≡ Call at callee) parts.old parts.new }
+    ensures uses { Uses 1 1 parts.old.tables parts.new.tables }
+    ensures flights { parts.new.flights ≡ parts.old.flights }
+    ensures marks { parts.new.marks ≡ parts.old.marks }
+    ensures held { length parts.new.edges.edges ≤ length parts.old.edges.edges + length starts.now }
+    ensures edge_room { parts.old.edges.spare ≤ parts.new.edges.spare + length starts.now }
+    ensures queue_len { deque_len parts.new.queue ≤ deque_len parts.old.queue + length starts.now }
+    ensures queue_room { deque_capacity parts.new.queue ≡ deque_capacity parts.old.queue }
 {
     let number = open_context(problem, parts, callee);
     take_starts(problem, parts, number, starts, callee.fact);

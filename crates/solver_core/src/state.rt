@@ -3,16 +3,21 @@ ghost use Rattle.std.specs.Prelude.{◌≡◌, ◌≢◌, ◌↔◌, ◌<◌, �
 ghost use Rattle.std.specs.List.Sorted.{IsStrictlySortedBy};
 ghost use Rattle.ifds_model.specs.Runs.{IsEdge, IsContext, IsLeak, HasCount, Lists};
 ghost use Rattle.ifds_model.specs.State.{At};
-ghost use Rattle.ifds_model.specs.Events.{IsOpened, Takes, GivesBack};
+ghost use Rattle.ifds_model.specs.Events.{IsOpened, Takes, Commits, GivesBack};
 ghost use Rattle.solver_core.specs.Seen.{IsRight};
-ghost use Rattle.solver_core.specs.Answers.{IsOver, IsIdle};
+ghost use Rattle.solver_core.specs.Answers.{IsOver, IsIdle, IsStopped};
+ghost use Rattle.solver_core.specs.declared.answer.Committed.TheVariants.{Done};
 ghost use Rattle.solver_core.specs.declared.answer.Taken.TheVariants.{Took, Idle, Finished};
 
-use crate::answer::{Answer, Job, Taken};
+use crate::answer::{Answer, CommitStop, Committed, Job, Taken};
+use crate::intake::take_moves;
 use crate::marks::in_order;
 use crate::parts::{Parts, first_parts, first_start, named};
-use crate::work::{hand_back, hand_out, next_work, out_of, queue_work};
-use ifds_model::Problem;
+use crate::prepare::prepare;
+use crate::work::{
+    commit_count, hand_back, hand_of, hand_out, next_work, out_of, place_of, queue_work,
+};
+use ifds_model::{Outcome, Problem};
 use std::alloc::{AllocError, Global};
 use std::marker::Model;
 
@@ -29,7 +34,7 @@ pub struct State<'a, P: Problem> {
 }
 
 impl<'a, P: Problem> Model for State<'a, P> {
-    ghost use Rattle.std.specs.Prelude.{◌≤◌};
+    ghost use Rattle.std.specs.Prelude.{◌≤◌, ◌-◌, ◌^◌};
     ghost use Rattle.ifds_model.specs.State.{Seen};
     ghost use Rattle.solver_core.specs.Seen.{view_of_parts, AreNumbered, IsRight};
 
@@ -37,7 +42,7 @@ impl<'a, P: Problem> Model for State<'a, P> {
 
     ghost view = { λ s. record { problem = s.problem.now; view = view_of_parts (P.machine s.problem.now) s.parts s.commits s.lag s.takes s.period s.max_edges } };
 
-    ghost invariant = { λ s. (1 ≤ s.period) × AreNumbered s.parts × IsRight (P.machine s.problem.now) (P.reaches s.problem.now) (view_of_parts (P.machine s.problem.now) s.parts s.commits s.lag s.takes s.period s.max_edges) };
+    ghost invariant = { λ s. (1 ≤ s.period) × AreNumbered s.parts × IsRight (P.machine s.problem.now) (P.reaches s.problem.now) (view_of_parts (P.machine s.problem.now) s.parts s.commits s.lag s.takes s.period s.max_edges) × (s.max_edges ≤ 2 ^ 64 - 2) };
 }
 
 impl<'a, P: Problem> State<'a, P> {
@@ -131,6 +136,36 @@ impl<'a, P: Problem> State<'a, P> {
             item: named(&self.parts.tables, work),
             take: self.takes,
         })
+    }
+
+    /// Takes in the moves of the item that a worker has in hand.
+    pub fn commit(&mut self, w: u32, outcome: Outcome<P>) -> Result<Committed, CommitStop>
+        requires flies { At self.old.view.flights w (Some outcome.item) }
+        requires problem { outcome.problem ≡ self.old.problem }
+        ensures problem { self.new.problem ≡ self.old.problem }
+        ensures done { IfOk result (λ c. c ≡ Done) }
+        ensures event { OnOk result (Commits (P.machine self.old.problem) w self.old.view self.new.view) }
+        ensures stopped { IfErr result (λ e. IsStopped (P.machine self.old.problem) outcome.entry.item self.old.view e) }
+        ensures same { IfErr result (λ e. self.new.view ≡ self.old.view) }
+    {
+        let Some(work) = hand_of(self.parts.flights.as_slice(), w) else {
+            unreachable!();
+        };
+        let alloc = *self.parts.marks.allocator();
+        let context = place_of(work);
+        let readies = prepare(
+            alloc,
+            self.problem,
+            &mut self.parts,
+            context,
+            outcome.moves(),
+            self.max_edges,
+        )?;
+        hand_back(&mut self.parts.flights, w);
+        take_moves(self.problem, &mut self.parts, context, readies.as_slice());
+        self.commits += commit_count(work);
+        self.lag = self.lag.saturating_add(1).min(self.period);
+        Ok(Committed::Done)
     }
 
     /// A worker's item goes to the end of the queue.

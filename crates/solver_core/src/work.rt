@@ -1,9 +1,12 @@
 // What is still to be done, by the numbers of contexts: the queue of works, and the workers' hands. The state's parts
 // stand above.
-ghost use Rattle.std.specs.Prelude.{◌≡◌, ◌≤◌, ◌<◌, ◌+◌, ◌^◌, ◌++◌, ◌∷◌, [], length, slice_set, IfSome, IfNone, Some, None, vec_len};
+ghost use Rattle.std.specs.Prelude.{◌≡◌, ◌≤◌, ◌<◌, ◌+◌, ◌^◌, ◌++◌, ◌∷◌, [], List, length, slice_set, IfSome, IfNone, Some, None, vec_len};
 ghost use Rattle.std.specs.VecDeque.{deque_len, deque_capacity};
+ghost use Rattle.ifds_model.specs.declared.node.Context.{Context};
+ghost use Rattle.ifds_model.specs.Events.{commits_of};
 ghost use Rattle.ifds_model.specs.State.{At};
 ghost use Rattle.solver_core.specs.Hands.{in_hand};
+ghost use Rattle.solver_core.specs.Numbers.{item_of, place};
 
 use clean_base::StmtId;
 use ifds_model::Node;
@@ -74,6 +77,35 @@ pub fn hand_back<F: Copy>(flights: &mut Vec<Option<Work<F>>>, w: u32) -> Option<
             Some(work)
         }
         None => None,
+    }
+}
+
+/// What a worker has in hand.
+pub fn hand_of<F: Copy>(flights: &[Option<Work<F>>], w: u32) -> Option<Work<F>>
+    requires { w < length flights.now }
+    ensures { At flights.now w result }
+{
+    flights[w as usize]
+}
+
+/// The context in which a work is done.
+pub fn place_of<F: Copy>(work: Work<F>) -> u64
+    ensures { result ≡ place work }
+{
+    match work {
+        Work::Edge { context, .. } => context,
+        Work::Join { caller, .. } => caller,
+    }
+}
+
+/// How many commits of edges a work's commit counts as.
+pub fn commit_count<F: Copy>(work: Work<F>) -> u64
+    ensures count { (root : Context F) (contexts : List (Context F)) → result ≡ commits_of (item_of root contexts work) }
+    ensures few { result ≤ 1 }
+{
+    match work {
+        Work::Edge { .. } => 1,
+        Work::Join { .. } => 0,
     }
 }
 

@@ -3,6 +3,7 @@ use Rattle.entry_tables.specs.Tables.{Tables}
 use Rattle.ifds_model.specs.declared.node.Context.{Context}
 use Rattle.solver_core.specs.Numbers.{context_at}
 use Rattle.solver_core.proofs.Unknown.{context_new, context_kept, unknown_taken, not_known}
+use Rattle.solver_core.proofs.Used.{uses_none, uses_both}
 use Rattle.solver_core.proofs.moves.take_unknown.Goals as goal
 
 pub returns-clause-taken : goal.returns-clause-taken
@@ -22,3 +23,11 @@ returns-clause-taken g c = λ commits lag takes period max_edges.
     (context_at machine.root c.take_starts.new.parts.tables.contexts c.args.context) (ap (λ (t : Tables g.row.P-Fact.Denot). context_at machine.root t.contexts c.args.context) started.tables ∙ at_e)
     (context_at machine.root c.take_starts.new.parts.tables.contexts number) (ap (λ (t : Tables g.row.P-Fact.Denot). context_at machine.root t.contexts number) started.tables ∙ at_d)
     (started.taken commits lag takes period max_edges) (c.take_known.ensures.taken commits lag takes period max_edges)
+
+pub returns-clause-uses : goal.returns-clause-uses
+returns-clause-uses g c =
+    let old = c.args.parts.now.tables in
+    let opened = c.open_context-number.new.parts.tables in
+    let started = c.take_starts.new.parts.tables in
+    let new = c.take_known.new.parts.tables in
+    uses_both old started new 1 0 0 1 (uses_both old opened started 1 0 0 0 c.open_context-number.ensures.uses (uses_none opened started c.take_starts.ensures.tables)) c.take_known.ensures.uses

@@ -13,6 +13,7 @@ invariant_of-self g c =
         omega (arith, c.self.invariant.1.1, c.in-Some.ensures.less, c.queue_work.ensures.room, c.queue_work.ensures.len),
       ),
       back_right machine (g.P.Problem.reaches c.self.inside.problem.now) _ _ c.self.invariant.2 c.args.w gives,
+      c.self.invariant.3,
     )
 
 pub returns-in-Some-clause-event : goal.returns-in-Some-clause-event

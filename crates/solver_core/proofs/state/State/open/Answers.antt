@@ -13,6 +13,7 @@ invariant_of-result g c =
         omega (arith, did.room, no_hands (g.P.Problem.machine c.args.problem.now) c.root-root.result c.root-root.ensures c.in_ok-node.node c.args.workers parts.tables.contexts parts.tables.callers parts.tables.exits parts.edges.edges parts.queue.items parts.flights.items parts.marks.items did.contexts did.callers did.exits did.edges did.queue did.flights did.marks),
       ),
       opened_right (g.P.Problem.machine c.args.problem.now) (g.P.Problem.reaches c.args.problem.now) c.args.period c.args.max_edges c.args.workers _ (g.met.P.Problem.one_start c.args.problem.now) (g.met.P.Problem.reaches_itself c.args.problem.now) c.requires.limit.0 begun,
+      c.requires.limit.1,
     )
 
 pub returns-clause-opened : goal.returns-clause-opened

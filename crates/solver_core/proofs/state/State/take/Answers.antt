@@ -30,6 +30,7 @@ invariant_of-self-2 g c =
         omega (arith, c.self.invariant.1.1, c.in-Some.ensures.less, c.next_work.ensures.room, c.hand_out.ensures.out),
       ),
       take_right machine (g.P.Problem.reaches c.self.inside.problem.now) _ _ c.self.invariant.2 c.args.w 0 takes,
+      c.self.invariant.3,
     )
 
 pub returns-clause-took : goal.returns-clause-took

@@ -1,0 +1,144 @@
+use Rattle.std.proofs.Common.{arith, refl, ap, subst, sym, ◌≡◌, ◌∙◌, ◌+◌, length, map, slice_set, Some, None, Contains}
+use Rattle.std.specs.List.{sum_by}
+use Rattle.std.proofs.lemmas.Result.{err_from_is_err_and}
+use Rattle.ifds_model.specs.Outcome.{AreMovesOf}
+use Rattle.ifds_model.specs.Events.{commits_of}
+use Rattle.ifds_model.specs.State.{At, context_of}
+use Rattle.solver_core.specs.Gathered.{KeepsWithin}
+use Rattle.solver_core.specs.Hands.{in_hand}
+use Rattle.solver_core.specs.Numbers.{context_at}
+use Rattle.solver_core.specs.Room.{edges_of, works_of}
+use Rattle.solver_core.specs.Seen.{IsRight}
+use Rattle.solver_core.specs.declared.parts.Parts.{Parts}
+use Rattle.solver_core.proofs.Counted.{commits_within}
+use Rattle.solver_core.proofs.Landed.{flown_item, not_both, place_context, place_within, emptied_hand, emptied_fit, lag_is, same_view, same_fit, stopped_as, committed, commit_right}
+use Rattle.solver_core.proofs.Prepared.{starts_kept}
+use Rattle.solver_core.proofs.RoomLeft.{room_as}
+use Rattle.solver_core.proofs.state.State.commit.Goals as goal
+
+pub prepare-requires-clause-known : goal.prepare-requires-clause-known
+prepare-requires-clause-known g c =
+    let work = c.in-Some.work in
+    let flew = subst (λ xs. At xs c.args.w (Some work)) c.as_slice.ensures.value c.in-Some.ensures in
+    omega (arith, c.place_of-context.ensures, place_within _ work (c.self.invariant.1.0.flights_in work (c.args.w, flew.0, flew.1)))
+
+pub invariant_of-self : goal.invariant_of-self
+invariant_of-self g c =
+    let machine = g.P.Problem.machine c.self.inside.problem.now in
+    let s = c.self.inside.parts in
+    let t = c.prepare.new.parts in
+    let same = c.prepare.ensures.same in (
+      c.self.invariant.0,
+      (same_fit machine s t same c.self.invariant.1.0, c.prepare.ensures.hands),
+      subst (IsRight machine (g.P.Problem.reaches c.self.inside.problem.now)) (sym (same_view machine s t same c.self.inside.commits c.self.inside.lag c.self.inside.takes c.self.inside.period c.self.inside.max_edges)) c.self.invariant.2,
+      c.self.invariant.3,
+    )
+
+pub returns-in_err-readies-clause-stopped : goal.returns-in_err-readies-clause-stopped
+returns-in_err-readies-clause-stopped g c =
+    let p = err_from_is_err_and c.from_residual.result c.from_residual.ensures.1 in
+    let machine = g.P.Problem.machine c.self.inside.problem.now in
+    let s = c.self.inside.parts in
+    let t = c.prepare.new.parts in
+    let work = c.in-Some.work in
+    let flies = rw (← c.self.view_is) at c.requires.flies in
+    let problem = rw (← c.self.view_is) at c.requires.problem in
+    let flew = subst (λ xs. At xs c.args.w (Some work)) c.as_slice.ensures.value c.in-Some.ensures in
+    let is = flown_item machine.root s.tables.contexts s.flights.items c.args.w c.args.outcome.item flies work flew in
+    let here : context_at machine.root s.tables.contexts c.place_of-context.result ≡ context_of c.args.outcome.item = ap (context_at machine.root s.tables.contexts) c.place_of-context.ensures ∙ place_context machine.root s.tables.contexts work ∙ ap context_of is in
+    let exact = subst (λ p. AreMovesOf (g.P.Problem.machine p) c.args.outcome.item c.moves.result.now) problem c.moves.ensures.exact in
+    rw (p.1, p.2) (rw (← c.self.view_is) (stopped_as machine s t c.prepare.ensures.same c.place_of-context.result c.args.outcome.item c.moves.result.now here exact c.self.inside.commits c.self.inside.lag c.self.inside.takes c.self.inside.period c.self.inside.max_edges _ c.in_err-readies.ensures.stopped))
+
+pub returns-in_err-readies-clause-same : goal.returns-in_err-readies-clause-same
+returns-in_err-readies-clause-same g c =
+    let p = err_from_is_err_and c.from_residual.result c.from_residual.ensures.1 in
+    let machine = g.P.Problem.machine c.self.inside.problem.now in
+    rw (p.1) (rw (← c.self.view_is) (same_view machine c.self.inside.parts c.prepare.new.parts c.prepare.ensures.same c.self.inside.commits c.self.inside.lag c.self.inside.takes c.self.inside.period c.self.inside.max_edges))
+
+pub take_moves-requires-clause-fit : goal.take_moves-requires-clause-fit
+take_moves-requires-clause-fit g c =
+    let machine = g.P.Problem.machine c.self.inside.problem.now in
+    let s = c.self.inside.parts in
+    let t = c.prepare.new.parts in
+    let same = c.prepare.ensures.same in
+    let work = c.in-Some.work in
+    let flew = subst (λ xs. At xs c.args.w (Some work)) c.as_slice.ensures.value c.in-Some.ensures in
+    let now = subst (λ xs. At xs.items c.args.w (Some work)) (sym same.flights) flew in
+    let emptied = emptied_hand c.hand_back.result (At t.flights.items c.args.w None) (c.hand_back.new.flights.items ≡ slice_set t.flights.items c.args.w None) (not_both t.flights.items c.args.w work now) c.hand_back.ensures.idle c.hand_back.ensures.emptied in
+    emptied_fit t.tables.contexts t.tables.callers t.tables.exits t.edges.edges t.queue.items t.flights.items c.hand_back.new.flights.items c.args.w now.0 emptied (same_fit machine s t same c.self.invariant.1.0)
+
+pub take_moves-requires-clause-known : goal.take_moves-requires-clause-known
+take_moves-requires-clause-known g c =
+    let work = c.in-Some.work in
+    let flew = subst (λ xs. At xs c.args.w (Some work)) c.as_slice.ensures.value c.in-Some.ensures in
+    omega (arith, c.place_of-context.ensures, place_within _ work (c.self.invariant.1.0.flights_in work (c.args.w, flew.0, flew.1)), ap length c.prepare.ensures.same.contexts)
+
+pub take_moves-requires-clause-starts : goal.take_moves-requires-clause-starts
+take_moves-requires-clause-starts g c = λ r has.
+    starts_kept (g.P.Problem.machine c.self.inside.problem.now) c.self.inside.parts.tables c.prepare.new.parts.tables r.starts.items r.step c.prepare.ensures.same.contexts (c.in_ok-readies.ensures.starts r (subst (λ xs. Contains xs r) c.as_slice-2.ensures.value has))
+
+pub take_moves-requires-clause-room : goal.take_moves-requires-clause-room
+take_moves-requires-clause-room g c = room_as c.place_of-context.result c.prepare.new.parts _ c.in_ok-readies.readies.items c.as_slice-2.result.now c.as_slice-2.ensures.value refl refl refl refl c.in_ok-readies.ensures.room
+
+pub overflow_add-self : goal.overflow_add-self
+overflow_add-self g c = omega (arith, commits_within (g.P.Problem.machine c.self.inside.problem.now) _ c.self.invariant.2.sound, c.self.invariant.3, c.commit_count.ensures.few)
+
+pub invariant_of-self-2 : goal.invariant_of-self-2
+invariant_of-self-2 g c =
+    let machine = g.P.Problem.machine c.self.inside.problem.now in
+    let s = c.self.inside.parts in
+    let t = c.prepare.new.parts in
+    let same = c.prepare.ensures.same in
+    let mid : Parts g.row.P-Fact.Denot g.row.P-Mark.Denot = record { tables = t.tables; edges = t.edges; queue = t.queue; flights = c.hand_back.new.flights; marks = t.marks } in
+    let new = c.take_moves.new.parts in
+    let did = c.take_moves.ensures in
+    let item = c.args.outcome.item in
+    let work = c.in-Some.work in
+    let value = c.as_slice-2.ensures.value in
+    let ready = c.in_ok-readies.ensures in
+    let flies = rw (← c.self.view_is) at c.requires.flies in
+    let problem = rw (← c.self.view_is) at c.requires.problem in
+    let flew = subst (λ xs. At xs c.args.w (Some work)) c.as_slice.ensures.value c.in-Some.ensures in
+    let now = subst (λ xs. At xs.items c.args.w (Some work)) (sym same.flights) flew in
+    let emptied = emptied_hand c.hand_back.result (At t.flights.items c.args.w None) (c.hand_back.new.flights.items ≡ slice_set t.flights.items c.args.w None) (not_both t.flights.items c.args.w work now) c.hand_back.ensures.idle c.hand_back.ensures.emptied in
+    let is = flown_item machine.root s.tables.contexts s.flights.items c.args.w item flies work flew in
+    let here : context_at machine.root s.tables.contexts c.place_of-context.result ≡ context_of item = ap (context_at machine.root s.tables.contexts) c.place_of-context.ensures ∙ place_context machine.root s.tables.contexts work ∙ ap context_of is in
+    let exact = subst (λ p. AreMovesOf (g.P.Problem.machine p) item c.moves.result.now) problem c.moves.ensures.exact in
+    let steps : map (λ r. r.step) c.as_slice-2.result.now ≡ c.moves.result.now = ap (map (λ r. r.step)) value ∙ ready.steps in
+    let limit = subst (λ xs. KeepsWithin machine s c.place_of-context.result c.moves.result.now (sum_by edges_of xs) c.self.inside.max_edges) (sym value) ready.within in
+    let counts = ap (λ n. c.self.inside.commits + n) (c.commit_count.ensures.count machine.root s.tables.contexts ∙ ap commits_of is) in
+    let lags = lag_is c.self.inside.lag c.min-self-inside.result c.saturating_add.result c.self.inside.period _ c.saturating_add.ensures c.min-self-inside.ensures (omega arith) in
+    let less = emptied_hand c.hand_back.result (At t.flights.items c.args.w None) (in_hand c.hand_back.new.flights.items + 1 ≡ in_hand t.flights.items) (not_both t.flights.items c.args.w work now) c.hand_back.ensures.idle c.hand_back.ensures.less in
+    let event = committed machine s t same c.place_of-context.result item c.moves.result.now here exact c.args.w mid new c.as_slice-2.result.now c.self.inside.commits c.self.inside.lag c.self.inside.takes c.self.inside.period c.self.inside.max_edges (c.self.inside.commits + c.commit_count.result) c.min-self-inside.result refl refl refl refl emptied steps did.taken counts lags flies limit did.held in (
+      c.self.invariant.0,
+      (did.fit, omega (arith, ready.queue, did.queue_len, did.queue_room, less, ap (λ x. in_hand x.items) did.flights, ap (sum_by works_of) value)),
+      commit_right machine s t same c.place_of-context.result item c.moves.result.now here exact c.args.w mid new c.as_slice-2.result.now c.self.inside.commits c.self.inside.lag c.self.inside.takes c.self.inside.period c.self.inside.max_edges (c.self.inside.commits + c.commit_count.result) c.min-self-inside.result refl refl refl refl emptied steps did.taken counts lags flies (g.P.Problem.reaches c.self.inside.problem.now) c.self.invariant.2 c.self.invariant.0 did.fit event,
+      c.self.invariant.3,
+    )
+
+pub returns-clause-event : goal.returns-clause-event
+returns-clause-event g c =
+    let machine = g.P.Problem.machine c.self.inside.problem.now in
+    let s = c.self.inside.parts in
+    let t = c.prepare.new.parts in
+    let same = c.prepare.ensures.same in
+    let mid : Parts g.row.P-Fact.Denot g.row.P-Mark.Denot = record { tables = t.tables; edges = t.edges; queue = t.queue; flights = c.hand_back.new.flights; marks = t.marks } in
+    let new = c.take_moves.new.parts in
+    let did = c.take_moves.ensures in
+    let item = c.args.outcome.item in
+    let work = c.in-Some.work in
+    let value = c.as_slice-2.ensures.value in
+    let ready = c.in_ok-readies.ensures in
+    let flies = rw (← c.self.view_is) at c.requires.flies in
+    let problem = rw (← c.self.view_is) at c.requires.problem in
+    let flew = subst (λ xs. At xs c.args.w (Some work)) c.as_slice.ensures.value c.in-Some.ensures in
+    let now = subst (λ xs. At xs.items c.args.w (Some work)) (sym same.flights) flew in
+    let emptied = emptied_hand c.hand_back.result (At t.flights.items c.args.w None) (c.hand_back.new.flights.items ≡ slice_set t.flights.items c.args.w None) (not_both t.flights.items c.args.w work now) c.hand_back.ensures.idle c.hand_back.ensures.emptied in
+    let is = flown_item machine.root s.tables.contexts s.flights.items c.args.w item flies work flew in
+    let here : context_at machine.root s.tables.contexts c.place_of-context.result ≡ context_of item = ap (context_at machine.root s.tables.contexts) c.place_of-context.ensures ∙ place_context machine.root s.tables.contexts work ∙ ap context_of is in
+    let exact = subst (λ p. AreMovesOf (g.P.Problem.machine p) item c.moves.result.now) problem c.moves.ensures.exact in
+    let steps : map (λ r. r.step) c.as_slice-2.result.now ≡ c.moves.result.now = ap (map (λ r. r.step)) value ∙ ready.steps in
+    let limit = subst (λ xs. KeepsWithin machine s c.place_of-context.result c.moves.result.now (sum_by edges_of xs) c.self.inside.max_edges) (sym value) ready.within in
+    let counts = ap (λ n. c.self.inside.commits + n) (c.commit_count.ensures.count machine.root s.tables.contexts ∙ ap commits_of is) in
+    let lags = lag_is c.self.inside.lag c.min-self-inside.result c.saturating_add.result c.self.inside.period _ c.saturating_add.ensures c.min-self-inside.ensures (omega arith) in
+    rw (← c.self.view_is) (committed machine s t same c.place_of-context.result item c.moves.result.now here exact c.args.w mid new c.as_slice-2.result.now c.self.inside.commits c.self.inside.lag c.self.inside.takes c.self.inside.period c.self.inside.max_edges (c.self.inside.commits + c.commit_count.result) c.min-self-inside.result refl refl refl refl emptied steps did.taken counts lags flies limit did.held)
