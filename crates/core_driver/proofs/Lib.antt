@@ -1,0 +1,7 @@
+mod Within
+mod Two
+mod Left
+mod Hands
+mod Steps
+mod Taking
+mod Whole
