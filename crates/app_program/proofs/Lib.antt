@@ -1,0 +1,7 @@
+pub mod Indexed
+pub mod Named
+pub mod Says
+pub mod Seen
+pub mod Numbers
+pub mod Whole
+pub mod Pairs

@@ -1,0 +1,127 @@
+// What calls are: the method that a signature names, and what the list says of it (docs/FLOW-RULES.md, "Calls"). The
+// index of methods stands below; the views of statements above.
+ghost use Rattle.std.specs.Prelude.{◌≡◌, ◌≤◌, ◌↔◌, ◌⊎◌, IfOk, IfSome, IfNone, IsTrue, length, Some};
+ghost use Rattle.clean_base.specs.declared.ids.MethodId.{MethodId};
+ghost use Rattle.jimple_tree.specs.Bodies.{IsOfBodies};
+ghost use Rattle.source_sink.specs.declared.line.Line.{Line};
+ghost use Rattle.app_program.specs.Calls.{IsMethod, IsKind};
+ghost use Rattle.app_program.specs.Index.{IsIndex};
+ghost use Rattle.app_program.specs.Kinds.{SaysAmong};
+
+use crate::index::{Index, index_of};
+use clean_base::{MethodId, Name};
+use jimple_tree::{Class, Sig};
+use source_sink::{Kind, Lists};
+use std::alloc::{AllocError, Global};
+use std::marker::Model;
+
+/// Where calls are looked up: the class with its methods by name, and the lists.
+#[derive(Drop)]
+pub struct Scope<'a> {
+    pub class: &'a Class,
+    pub lists: &'a Lists,
+    index: Index,
+}
+
+impl<'a> Model for Scope<'a> {
+    ghost use Rattle.std.specs.Prelude.{length};
+    ghost use Rattle.jimple_tree.specs.Bodies.{IsOfBodies};
+    ghost use Rattle.app_program.specs.Index.{IsIndex};
+    ghost use Rattle.app_program.specs.Known.{Known};
+
+    ghost Value = { Known };
+
+    ghost view = { λ s. record { class = s.class.now; lines = s.lists.now } };
+
+    ghost invariant = { λ s. IsOfBodies s.class.now × IsIndex s.class.now.methods (length s.class.now.methods) s.index };
+}
+
+// What one of two kinds says.
+fn either(one: Kind, other: Kind) -> Kind
+    ensures source { IsTrue result.source ↔ (IsTrue one.source ⊎ IsTrue other.source) }
+    ensures sink { IsTrue result.sink ↔ (IsTrue one.sink ⊎ IsTrue other.sink) }
+{
+    Kind {
+        source: one.source || other.source,
+        sink: one.sink || other.sink,
+    }
+}
+
+// The kind, and what the lists say of the signature in each of these classes.
+fn with_classes(kind: Kind, lists: &Lists, classes: &[Name], sig: &Sig) -> Kind
+    ensures source { IsTrue result.source ↔ (IsTrue kind.source ⊎ SaysAmong lists.now classes.now sig.now (λ (l : Line). l.source)) }
+    ensures sink { IsTrue result.sink ↔ (IsTrue kind.sink ⊎ SaysAmong lists.now classes.now sig.now (λ (l : Line). l.sink)) }
+{
+    let mut all = kind;
+    for class in classes {
+        all = either(all, lists.kind(class, sig));
+    }
+    all
+}
+
+// The method of the class that the signature names.
+fn find(class: &Class, index: &Index, sig: &Sig) -> Option<MethodId>
+    requires bodies { IsOfBodies class.now }
+    requires index { IsIndex class.now.methods (length class.now.methods) index.now }
+    ensures { (n : MethodId) → (result ≡ Some n) ↔ IsMethod class.now sig.now n }
+{
+    if sig.class != class.name {
+        return None;
+    }
+    let methods = class.methods.as_slice();
+    let earlier = index.earlier.as_slice();
+    let mut next = index.last.get(&sig.name).copied();
+    'named: while let Some(number) = next {
+        if methods[number].is_named(&class.name, sig) {
+            return Some(MethodId(number as u32));
+        }
+        next = earlier[number];
+    }
+    None
+}
+
+impl<'a> Scope<'a> {
+    /// The scope of a class and its lists.
+    pub fn new(alloc: Global, class: &'a Class, lists: &'a Lists) -> Result<Scope<'a>, AllocError>
+        requires { IsOfBodies class.now }
+        ensures { IfOk result (λ s. s ≡ record { class = class.now; lines = lists.now }) }
+    {
+        let index = index_of(alloc, class.methods.as_slice())?;
+        Ok(Scope {
+            class,
+            lists,
+            index,
+        })
+    }
+
+    /// What the lists say of a call.
+    pub fn kind_of(&self, sig: &Sig) -> Kind
+        ensures source { IsTrue result.source ↔ IsKind self.now.class self.now.lines sig.now (λ (l : Line). l.source) }
+        ensures sink { IsTrue result.sink ↔ IsKind self.now.class self.now.lines sig.now (λ (l : Line). l.sink) }
+    {
+        let own = self.lists.kind(&sig.class, sig);
+        if sig.class != self.class.name {
+            return own;
+        }
+        let extended = with_classes(own, self.lists, self.class.extends.as_slice(), sig);
+        with_classes(extended, self.lists, self.class.implements.as_slice(), sig)
+    }
+
+    /// The method of the class that the signature names.
+    pub fn method_of(&self, sig: &Sig) -> Option<MethodId>
+        ensures some { IfSome result (λ n. IsMethod self.now.class sig.now n) }
+        ensures none { IfNone result ((n : MethodId) → IsMethod self.now.class sig.now n → ⊥) }
+    {
+        find(self.class, &self.index, sig)
+    }
+
+    /// The method that an open call of this kind is of.
+    pub fn target_of(&self, sig: &Sig, kind: Kind) -> Option<MethodId>
+        ensures { (n : MethodId) → (result ≡ Some n) ↔ (IsMethod self.now.class sig.now n × (IsTrue kind.source → ⊥) × (IsTrue kind.sink → ⊥)) }
+    {
+        if kind.source || kind.sink {
+            return None;
+        }
+        find(self.class, &self.index, sig)
+    }
+}
