@@ -1,12 +1,6 @@
 pub mod Appended
 pub mod Asked
-pub mod Few
-pub mod Openings
 pub mod Ordered
 pub mod Pairs
-pub mod Search
-pub mod Seen
 pub mod Served
-pub mod Sets
 pub mod Stages
-pub mod Steps

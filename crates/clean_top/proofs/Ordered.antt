@@ -13,8 +13,8 @@ use Rattle.std.proofs.lemmas.List.Edits.{length-remove}
 use Rattle.std.proofs.lemmas.List.Elements.{Contains-append_cases, Contains-push_cases}
 use Rattle.std.proofs.lemmas.List.Sorted.{ranks_by, sorted_far, sum_by-IsPermutation, Contains-permutation, IsPermutation-refl, IsPermutation-sym, IsPermutation-cons, IsPermutation-trans, IsPermutation-map, IsPermutation-remove}
 use Rattle.std.proofs.lemmas.List.Sums.{sum_by-cons, sum_by-le, get_or-le-sum_by}
-use Rattle.jimple_tree.specs.declared.tree.Local.{Local}
-use Rattle.jimple_tree.specs.declared.tree.Sig.{Sig}
+use Rattle.jimple_tree.specs.declared.tree.Class.{Class}
+use Rattle.taint_problem.specs.declared.code.Code.{Code}
 use Rattle.ifds_model.specs.Machine.{Machine}
 use Rattle.ifds_model.specs.Runs.{IsEdge, IsContext, IsLeak, Lists}
 use Rattle.ifds_model.specs.Count.{no_more_than, one_count}
@@ -137,21 +137,21 @@ line_order_exact a b e =
     ∙ ap (λ (p : List ℕ). line b.sink.0 b.source.0 p) (slice_cmp-IsAntisymmetric nat_cmp-IsAntisymmetric a.path b.path second.1)
 
 -- leaks in another order have the same lines
-pub shows_once : (locals : List Local) (leaks others : List Leak) (lines more : List Line) → IsPermutation leaks others → Shows locals leaks lines → Shows locals others more → more ≡ lines
-shows_once locals leaks others lines more moved a b =
-    let there = IsPermutation-sym (map (line_of locals) leaks) lines a.each in
-    let over = IsPermutation-map (line_of locals) leaks others moved in
-    let on = IsPermutation-trans (map (line_of locals) leaks) (map (line_of locals) others) more over b.each in
-    sorted_once line_order_total line_order_exact lines more (IsPermutation-trans lines (map (line_of locals) leaks) more there on) a.in_order b.in_order
+pub shows_once : (class : Class) (code : Code) (leaks others : List Leak) (lines more : List Line) → IsPermutation leaks others → Shows class code leaks lines → Shows class code others more → more ≡ lines
+shows_once class code leaks others lines more moved a b =
+    let there = IsPermutation-sym (map (line_of class code) leaks) lines a.each in
+    let over = IsPermutation-map (line_of class code) leaks others moved in
+    let on = IsPermutation-trans (map (line_of class code) leaks) (map (line_of class code) others) more over b.each in
+    sorted_once line_order_total line_order_exact lines more (IsPermutation-trans lines (map (line_of class code) leaks) more there on) a.in_order b.in_order
 
 -- a machine has one report
-pub reports_once : {F : Type 0} (P : Machine F Leak) (s : Sig) (locals : List Local) (text other : List ℕ) (leaky says : Bool) → Reports P s locals text leaky → Reports P s locals other says → (other ≡ text) × (says ≡ leaky)
-reports_once P s locals text other leaky says a b =
-    let lines : b.lines ≡ a.lines = shows_once locals a.leaks b.leaks a.lines b.lines (listed_permutation (IsLeak P) a.leaks b.leaks a.listed b.listed) a.shown b.shown in
-    let edges : b.edges ≡ a.edges = one_count (IsEdge P) b.edges a.edges b.counted a.counted in
+pub reports_once : {F : Type 0} (P : Machine F Leak) (class : Class) (code : Code) (edges n : ℕ) (text other : List ℕ) (leaky says : Bool) → Reports P class code edges text leaky → Reports P class code n other says → (other ≡ text) × (says ≡ leaky)
+reports_once P class code edges n text other leaky says a b =
+    let lines : b.lines ≡ a.lines = shows_once class code a.leaks b.leaks a.lines b.lines (listed_permutation (IsLeak P) a.leaks b.leaks a.listed b.listed) a.shown b.shown in
+    let edges_same : n ≡ edges = one_count (IsEdge P) n edges b.counted a.counted in
     let contexts : b.contexts ≡ a.contexts = one_count (IsContext P) b.contexts a.contexts b.known a.known in
-    let texts : report_text s b.lines b.edges b.contexts ≡ report_text s a.lines a.edges a.contexts =
-    ap (λ (ls : List Line). report_text s ls b.edges b.contexts) lines
-    ∙ ap (λ (n : ℕ). report_text s a.lines n b.contexts) edges
-    ∙ ap (λ (n : ℕ). report_text s a.lines a.edges n) contexts in
+    let texts : report_text class code b.lines n b.contexts ≡ report_text class code a.lines edges a.contexts =
+    ap (λ (ls : List Line). report_text class code ls n b.contexts) lines
+    ∙ ap (λ (m : ℕ). report_text class code a.lines m b.contexts) edges_same
+    ∙ ap (λ (m : ℕ). report_text class code a.lines edges m) contexts in
     (b.is ∙ texts ∙ sym a.is, b.leaky_is ∙ ap (λ (ls : List Line). nat_lt 0 (length ls)) lines ∙ sym a.leaky_is)

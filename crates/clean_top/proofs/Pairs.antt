@@ -1,5 +1,5 @@
 -- Pairs of brackets, one after another.
-use Rattle.std.proofs.Common.{◌≡◌, ℕ, zero, suc, ◌+◌, List, [], ◌∷◌, ◌++◌, codes, refl, ap, ◌∙◌, sym, append_assoc, add-one}
+use Rattle.std.proofs.Common.{◌≡◌, ℕ, zero, suc, ◌+◌, List, ◌++◌, codes, refl, ap, ◌∙◌, sym, append_assoc, add-one}
 use Rattle.clean_top.specs.Report.{brackets}
 
 brackets-suc : (n : ℕ) → brackets (suc n) ≡ brackets n ++ codes "[]"

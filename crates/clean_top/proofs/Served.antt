@@ -1,21 +1,25 @@
 -- What a call comes to, by how far it gets.
-use Rattle.std.proofs.Common.{◌≡◌, ℕ, zero, suc, ◌<◌, ◌≤◌, Bool, true, false, List, length, Option, Some, None, IfSome, Result, Ok, Err, inl, inr, refl, sym, ◌∙◌, ap, subst, arith}
-use Rattle.clean_base.specs.Device.{Rose, ReadCause, AppendsFirst}
+use Rattle.std.proofs.Common.{◌≡◌, ℕ, ◌+◌, ◌<◌, ◌≤◌, Bool, true, false, List, length, Option, Some, IfSome, Result, Ok, Err, inl, inr, refl, sym, ◌∙◌, ap, subst, arith}
+use Rattle.clean_base.specs.Device.{ReadCause, AppendsFirst}
 use Rattle.clean_base.specs.declared.fault.InputFault.{InputFault}
 use Rattle.clean_base.specs.declared.fault.InputFault.TheVariants.{TooLong}
 use Rattle.clean_base.specs.declared.read.ReadStop.{ReadStop}
 use Rattle.clean_base.specs.declared.read.ReadStop.TheVariants as stops
+use Rattle.ifds_model.specs.Runs.{IsEdge}
+use Rattle.core_driver.specs.More.{no_count}
 use Rattle.clean_top.proofs.Ordered.{reports_once}
 use Rattle.clean_top.proofs.Stages.{settles_next, settles_stop}
-use Rattle.clean_top.specs.Answer.{Run, Holds, IsMeant, Wrote, Says, Answers, Serves, Writes, OrMemory, whole, read_status}
-use Rattle.clean_top.specs.Meaning.{Files, class_room, list_room, fits, texts, program, Program, Outcome, refused, report, Means}
-use Rattle.clean_top.specs.Report.{Reports}
+use Rattle.clean_top.specs.Answer.{Run, Holds, IsMeant, Answers, Serves, Writes, OrMemory, whole, read_status}
+use Rattle.clean_top.specs.Meaning.{Files, class_room, list_room, edge_room, fits, texts, program, App, machine_of, IsOver, IsReport, Outcome, refused, over, report, Means}
 use Rattle.clean_top.specs.Stage.{Settles, ◌>>=◌}
-use Rattle.clean_top.specs.Straight.{machine}
-use Rattle.clean_top.specs.Texts.{Reported}
+use Rattle.clean_top.specs.Texts.{Reported, Overrun}
 use Rattle.clean_top.specs.Words.{Asked}
 use Rattle.clean_top.specs.declared.status.Status.{Status}
 use Rattle.clean_top.specs.declared.status.Status.TheVariants.{Clean, Leaks, Usage, Input, EdgeLimit, ReadFault, WriteFault, OutOfMemory}
+
+-- a program isn't both within the room for path edges and past it
+not_both : (app : App) (text : List ℕ) (leaky : Bool) → IsOver app → IsReport app text leaky → ⊥
+not_both app text leaky more is = omega (arith, no_count (IsEdge (machine_of app)) edge_room more is.edges is.reports.counted, is.within)
 
 -- a file within its room, and one past it
 short : (file : ℕ) (bytes : List ℕ) (room : ℕ) → length bytes ≤ room → Settles (fits file bytes room) (Ok tt)
@@ -29,13 +33,13 @@ module _ (asked : Asked) (files : Files) where
   class_long h = settles_stop (fits 0 files.class class_room) (λ class_fits. fits 1 files.list list_room >>= λ list_fits. texts asked.entry files.class files.list) (TooLong 0 class_room) (long 0 files.class class_room h)
 
   module _ (class_short : length files.class ≤ class_room) where
-    behind_class : (r : Result Program InputFault) → Settles (fits 1 files.list list_room >>= λ list_fits. texts asked.entry files.class files.list) r → Settles (program asked files) r
+    behind_class : (r : Result App InputFault) → Settles (fits 1 files.list list_room >>= λ list_fits. texts asked.entry files.class files.list) r → Settles (program asked files) r
     behind_class r = settles_next (fits 0 files.class class_room) (λ class_fits. fits 1 files.list list_room >>= λ list_fits. texts asked.entry files.class files.list) tt (short 0 files.class class_room class_short) r
 
     list_long : list_room < length files.list → Settles (program asked files) (Err (TooLong 1 list_room))
     list_long h = behind_class (Err (TooLong 1 list_room)) (settles_stop (fits 1 files.list list_room) (λ list_fits. texts asked.entry files.class files.list) (TooLong 1 list_room) (long 1 files.list list_room h))
 
-    behind_both : length files.list ≤ list_room → (r : Result Program InputFault) → Settles (texts asked.entry files.class files.list) r → Settles (program asked files) r
+    behind_both : length files.list ≤ list_room → (r : Result App InputFault) → Settles (texts asked.entry files.class files.list) r → Settles (program asked files) r
     behind_both h r settled = behind_class r (settles_next (fits 1 files.list list_room) (λ list_fits. texts asked.entry files.class files.list) tt (short 1 files.list list_room h) r settled)
 
   -- what a settled program means, and nothing else
@@ -44,28 +48,42 @@ module _ (asked : Asked) (files : Files) where
     where
       once : (other : Outcome) → Means asked files other → other ≡ refused f
       once (refused g) means = ap refused (settled.1 g means)
+      once over means = absurd (settled.2 means.0 means.1)
       once (report text leaky) means = absurd (settled.2 means.0 means.1)
 
-  report_meant : (p : Program) (text : List ℕ) (leaky : Bool) → Settles (program asked files) (Ok p) → Reports (machine p.views) p.sig p.locals text leaky
+  over_meant : (app : App) → Settles (program asked files) (Ok app) → IsOver app → Means asked files over × ((other : Outcome) → Means asked files other → other ≡ over)
+  over_meant app settled more = ((app, settled.0, more), once)
+    where
+      once : (other : Outcome) → Means asked files other → other ≡ over
+      once (refused g) means = absurd (settled.2 g means)
+      once over means = refl
+      once (report text leaky) means =
+          let same : means.0 ≡ app = settled.1 means.0 means.1 in
+          absurd (not_both app text leaky more (subst (λ (a : App). IsReport a text leaky) same means.2))
+
+  report_meant : (app : App) (text : List ℕ) (leaky : Bool) → Settles (program asked files) (Ok app) → IsReport app text leaky
       → Means asked files (report text leaky) × ((other : Outcome) → Means asked files other → other ≡ report text leaky)
-  report_meant p text leaky settled reports = ((p, settled.0, reports), once)
+  report_meant app text leaky settled is = ((app, settled.0, is), once)
     where
       once : (other : Outcome) → Means asked files other → other ≡ report text leaky
       once (refused g) means = absurd (settled.2 g means)
+      once over means = absurd (not_both app text leaky (subst IsOver (settled.1 means.0 means.1) means.2) is)
       once (report other says) means =
-          let same : means.0 ≡ p = settled.1 means.0 means.1 in
-          let again = subst (λ (q : Program). Reports (machine q.views) q.sig q.locals other says) same means.2 in
-          let one = reports_once (machine p.views) p.sig p.locals text other leaky says reports again in
+          let same : means.0 ≡ app = settled.1 means.0 means.1 in
+          let again = subst (λ (a : App). IsReport a other says) same means.2 in
+          let one = reports_once (machine_of app) app.class app.program.code is.edges again.edges text other leaky says is.reports again.reports in
           ap (λ (t : List ℕ). report t says) one.0 ∙ ap (λ (b : Bool). report text b) one.1
 
 module _ (run : Run) (asked : Asked) where
   -- the answers that may come whatever is meant
   out_of_memory : (o : Outcome) → Answers run o OutOfMemory
   out_of_memory (refused f) = inr (inr refl)
+  out_of_memory over = inr (inr refl)
   out_of_memory (report text leaky) = inr (inr (inr refl))
 
   read_fault : (file : ℕ) (o : Outcome) → Answers run o (ReadFault file)
   read_fault file (refused f) = inr (inl (file, refl))
+  read_fault file over = inr (inl (file, refl))
   read_fault file (report text leaky) = inr (inl (file, refl))
 
   -- what is meant is answered
@@ -122,7 +140,7 @@ module _ (run : Run) (asked : Asked) where
 
     module _ (list : List ℕ) (list_whole : IfSome (run.holds asked.lists) (λ b. list ≡ b)) (list_fits : length list ≤ list_room) where
       -- both files are read
-      settled : (files : Files) → Holds run asked files → (r : Result Program InputFault) → Settles (texts asked.entry class list) r → Settles (program asked files) r
+      settled : (files : Files) → Holds run asked files → (r : Result App InputFault) → Settles (texts asked.entry class list) r → Settles (program asked files) r
       settled files holds r texts_settled =
           let same_class : class ≡ files.class = at_some _ files.class (λ b. class ≡ b) holds.class class_whole in
           let same_list : list ≡ files.list = at_some _ files.list (λ b. list ≡ b) holds.list list_whole in
@@ -133,22 +151,27 @@ module _ (run : Run) (asked : Asked) where
       pub texts_stop : (f : InputFault) → run.new ≡ run.old → Settles (texts asked.entry class list) (Err f) → Serves run asked (Input f)
       texts_stop f same stopped = refuses f same (λ files holds. fault_meant asked files f (settled files holds (Err f) stopped))
 
+      pub limit_stops : (found : ℕ) → run.new ≡ run.old → Overrun (texts asked.entry class list) × (found ≡ edge_room + 1) → Serves run asked (EdgeLimit found)
+      limit_stops found same stopped =
+          let meant : IsMeant run asked over = λ files holds. over_meant asked files stopped.0.found (settled files holds (Ok stopped.0.found) stopped.0.settled) stopped.0.over in
+          record { said = (same, meant, stopped.1); only = answered over (EdgeLimit found) meant (inl (ap EdgeLimit stopped.1)) }
+
       pub memory_stops : run.new ≡ run.old → Serves run asked OutOfMemory
       memory_stops same = no_memory same
 
       module _ (text : List ℕ) where
-        meant : (leaky : Bool) → Reported asked.entry class list text leaky → IsMeant run asked (report text leaky)
+        meant : (leaky : Bool) → Reported (texts asked.entry class list) text leaky → IsMeant run asked (report text leaky)
         meant leaky reported files holds = report_meant asked files reported.found text leaky (settled files holds (Ok reported.found) reported.settled) reported.reports
 
-        wrote_whole : (leaky : Bool) → Reported asked.entry class list text leaky → AppendsFirst run.old run.new (length text) text → Serves run asked (whole leaky)
+        wrote_whole : (leaky : Bool) → Reported (texts asked.entry class list) text leaky → AppendsFirst run.old run.new (length text) text → Serves run asked (whole leaky)
         wrote_whole true reported taken = record { said = (text, record { meant = meant true reported; taken = taken }); only = answered (report text true) Leaks (meant true reported) (inl (refl, taken)) }
         wrote_whole false reported taken = record { said = (text, record { meant = meant false reported; taken = taken }); only = answered (report text false) Clean (meant false reported) (inl (refl, taken)) }
 
-        whole_only : (leaky : Bool) → Reported asked.entry class list text leaky → (s : Status) → (s ≡ whole leaky) × AppendsFirst run.old run.new (length text) text → Serves run asked s
+        whole_only : (leaky : Bool) → Reported (texts asked.entry class list) text leaky → (s : Status) → (s ≡ whole leaky) × AppendsFirst run.old run.new (length text) text → Serves run asked s
         whole_only leaky reported s wrote = subst (Serves run asked) (sym wrote.0) (wrote_whole leaky reported wrote.1)
 
         -- the report is written, or a part of it
-        pub written : (leaky : Bool) → Reported asked.entry class list text leaky → (s : Status) → Writes run.old run.new run.first run.last text leaky s → Serves run asked s
+        pub written : (leaky : Bool) → Reported (texts asked.entry class list) text leaky → (s : Status) → Writes run.old run.new run.first run.last text leaky s → Serves run asked s
         written leaky reported (WriteFault n) wrote = record {
           said = (wrote.0, (text, leaky, wrote.1, record { meant = meant leaky reported; taken = wrote.2 }));
           only = answered (report text leaky) (WriteFault n) (meant leaky reported) (inr (inr (inl (n, refl))));

@@ -1,24 +1,34 @@
 -- How stages come out, one after another.
-use Rattle.std.proofs.Common.{◌≡◌, ◌⊎◌, ℕ, Bool, List, [], ◌∷◌, Result, Ok, Err, Some, inl, inr, sym, ◌∙◌, ap, subst, refl}
+use Rattle.std.proofs.Common.{◌≡◌, ℕ, Bool, List, [], ◌∷◌, get_or, Result, Ok, Err, IfOk, IfErr, inl, inr, sym, ◌∙◌, ap, subst, refl}
 use Rattle.clean_base.specs.declared.fault.InputFault.{InputFault}
 use Rattle.clean_base.specs.declared.fault.Stop.{Stop}
-use Rattle.clean_base.specs.declared.fault.Stop.TheVariants.{Fault, OutOfMemory}
-use Rattle.clean_base.specs.declared.fault.InputFault.TheVariants.{NotYet, EntryMissing}
+use Rattle.clean_base.specs.declared.fault.Stop.TheVariants as stops
+use Rattle.clean_base.specs.declared.fault.InputFault.TheVariants.{NotYet}
 use Rattle.jimple_text.specs.Built.{IsBuilt, NotBuilt}
-use Rattle.jimple_tree.specs.declared.tree.Body.{Body}
 use Rattle.jimple_tree.specs.declared.tree.Class.{Class}
-use Rattle.jimple_tree.specs.declared.tree.Method.{Method}
 use Rattle.jimple_tree.specs.declared.tree.Sig.{Sig}
 use Rattle.source_sink.specs.Lists.{AreLines, Refuses as Unlisted}
 use Rattle.source_sink.specs.declared.line.Line.{Line}
-use Rattle.clean_top.proofs.Seen.{views_once}
-use Rattle.clean_top.specs.Meaning.{classes, lines, entered, Enters, IsMethod, Program, texts}
-use Rattle.clean_top.specs.Report.{Reports}
-use Rattle.clean_top.specs.Straight.{machine}
-use Rattle.clean_top.specs.Texts.{Reported, Stopped}
+use Rattle.app_program.specs.Program.{IsProgram, NoProgram}
+use Rattle.app_program.specs.declared.program.Program.{Program}
+use Rattle.clean_top.specs.Meaning.{App, read, lines, entered, texts, IsReport}
+use Rattle.clean_top.specs.Texts.{as_text, Unsolved, Reported, Stopped}
 use Rattle.clean_top.specs.Stage.{Stage, Settles, ◌>>=◌}
-use Rattle.clean_top.specs.Views.{AreViews}
-use Rattle.clean_top.specs.declared.flow.View.{View}
+use Rattle.clean_top.specs.declared.text.TextStop.{TextStop}
+use Rattle.clean_top.specs.declared.text.TextStop.TheVariants.{Fault, EdgeLimit, OutOfMemory}
+
+-- what is so of each value, or of each error, is so of the result's
+pub if_ok : {T E : Type 0} (r : Result T E) (P Q : T → Type 0) → ((t : T) → P t → Q t) → IfOk r P → IfOk r Q
+if_ok (Ok t) P Q so is = so t is
+if_ok (Err e) P Q so is = tt
+
+pub if_err : {T E : Type 0} (r : Result T E) (P Q : E → Type 0) → ((e : E) → P e → Q e) → IfErr r P → IfErr r Q
+if_err (Ok t) P Q so is = tt
+if_err (Err e) P Q so is = so e is
+
+-- the first item of a list that has one
+pub only_item : {X : Type 0} (xs ys : List X) (x y : X) → ys ≡ xs → xs ≡ y ∷ [] → x ≡ get_or ys 0 x → xs ≡ x ∷ []
+only_item {X} xs ys x y same one is = one ∙ ap (λ (z : X). z ∷ []) (sym (subst (λ (zs : List X). x ≡ get_or zs 0 x) (same ∙ one) is))
 
 -- behind a stage that gives a value, the next one decides
 pub settles_next : {A B : Type 0} (s : Stage A) (t : A → Stage B) (a : A) → Settles s (Ok a) → (r : Result B InputFault) → Settles (t a) r → Settles (s >>= t) r
@@ -47,12 +57,26 @@ settles_stop s t e first = (
   (λ b gives. first.2 gives.0 gives.1),
 )
 
-module _ (file : ℕ) (bytes : List ℕ) where
-  pub classes_read : (cs : List Class) → IsBuilt bytes cs → ((ds : List Class) → IsBuilt bytes ds → ds ≡ cs) → Settles (classes file bytes) (Ok cs)
-  classes_read cs built only = (built, only, (λ f refuses. refuses.0 cs built))
+-- what a stage comes to behind one that gave a value
+module _ {A : Type 0} (s : Stage A) (t : A → Stage App) (a : A) (first : Settles s (Ok a)) where
+  pub reported_next : (text : List ℕ) (leaky : Bool) → Reported (t a) text leaky → Reported (s >>= t) text leaky
+  reported_next text leaky r = record { found = r.found; settled = settles_next s t a first (Ok r.found) r.settled; reports = r.reports }
 
-  pub classes_refused : (f : InputFault) → f ≡ NotYet file → ((ds : List Class) → IsBuilt bytes ds → ⊥) → Settles (classes file bytes) (Err f)
-  classes_refused f is none = ((none, is), (λ g refuses. refuses.1 ∙ sym is), none)
+  pub stopped_next : (stop : TextStop) → Stopped (t a) stop → Stopped (s >>= t) stop
+  stopped_next (Fault f) stopped = settles_next s t a first (Err f) stopped
+  stopped_next (EdgeLimit found) stopped = (record { found = stopped.0.found; settled = settles_next s t a first (Ok stopped.0.found) stopped.0.settled; over = stopped.0.over }, stopped.1)
+  stopped_next OutOfMemory stopped = tt
+
+module _ (file : ℕ) (bytes : List ℕ) where
+  pub class_read : (cs : List Class) (class : Class) → cs ≡ class ∷ [] → IsBuilt bytes cs → ((ds : List Class) → IsBuilt bytes ds → ds ≡ cs) → Settles (read file bytes) (Ok class)
+  class_read cs class one built only = (
+    subst (IsBuilt bytes) one built,
+    (λ other is. let e : other ∷ [] ≡ class ∷ [] = only (other ∷ []) is ∙ one in cc),
+    (λ f refuses. refuses.0 cs built),
+  )
+
+  pub class_refused : (f : InputFault) → f ≡ NotYet file → ((ds : List Class) → IsBuilt bytes ds → ⊥) → Settles (read file bytes) (Err f)
+  class_refused f is none = ((none, is), (λ g refuses. refuses.1 ∙ sym is), (λ class built. none (class ∷ []) built))
 
   pub lines_read : (ls : List Line) → AreLines ls bytes → ((ms : List Line) → AreLines ms bytes → ms ≡ ls) → Settles (lines file bytes) (Ok ls)
   lines_read ls are only = (are, only, (λ f refuses. refuses.0 ls are))
@@ -60,54 +84,46 @@ module _ (file : ℕ) (bytes : List ℕ) where
   pub lines_refused : (f : InputFault) → f ≡ NotYet file → ((ms : List Line) → AreLines ms bytes → ⊥) → Settles (lines file bytes) (Err f)
   lines_refused f is none = ((none, is), (λ g refuses. refuses.1 ∙ sym is), none)
 
--- a class has one body of that name
-pub body_once : (cs : List Class) (s : Sig) (b c : Body) → IsMethod cs s b → IsMethod cs s c → c ≡ b
-body_once cs s b c m n =
-    let class : n.class ≡ m.class = let e : n.class ∷ [] ≡ m.class ∷ [] = sym n.classes ∙ m.classes in cc in
-    let method : n.method ≡ m.method = let e : n.method ∷ [] ≡ m.method ∷ [] = sym n.methods ∙ ap (λ (x : Class). x.methods) class ∙ m.methods in cc in
-    let e : Some c ≡ Some b = sym n.body_is ∙ ap (λ (x : Method). x.body) method ∙ m.body_is in
-    cc
+module _ (class : Class) (ls : List Line) (entry : Sig) where
+  pub entry_stops : (stop : Stop) → NoProgram class entry stop → Stopped (entered class ls entry) (as_text stop)
+  entry_stops (stops.Fault f) none = (none, (λ g refuses. refuses.1 ∙ sym none.1), (λ app gives. none.0 app.program.root gives.1.root))
+  entry_stops stops.OutOfMemory none = tt
 
-module _ (cs : List Class) (ls : List Line) (entry : Sig) where
-  pub entered_missing : ((body : Body) → IsMethod cs entry body → ⊥) → Settles (entered cs ls entry) (Err EntryMissing)
-  entered_missing none = ((none, refl), (λ g refuses. refuses.1), (λ p enters. none enters.body enters.method))
+  module _ (p : Program) (is : IsProgram class ls entry p) (only : (q : Program) → IsProgram class ls entry q → q ≡ p) where
+    entry_settles : Settles (entered class ls entry) (Ok (record { class = class; program = p }))
+    entry_settles = (
+      (refl, is),
+      (λ app gives. let same = only app.program gives.1 in let of = gives.0 in λ i. record { class = of i; program = same i }),
+      (λ f refuses. refuses.0 p.root is.root),
+    )
 
-  pub entered_at : (body : Body) (views : List View) → IsMethod cs entry body → AreViews ls body.stmts views → Settles (entered cs ls entry) (Ok (record { sig = entry; locals = body.locals; views = views }))
-  entered_at body views method are = (
-    record { body = body; method = method; sig_is = refl; locals_are = refl; views_are = are },
-    (λ p enters.
-        let same : enters.body ≡ body = body_once cs entry body enters.body method enters.method in
-        let sig = enters.sig_is in
-        let locals = enters.locals_are ∙ ap (λ (b : Body). b.locals) same in
-        let seen = views_once ls body.stmts views p.views are (subst (λ (b : Body). AreViews ls b.stmts p.views) same enters.views_are) in
-        λ i. record { sig = sig i; locals = locals i; views = seen i }),
-    (λ f refuses. refuses.0 body method),
-  )
+    pub program_reported : (text : List ℕ) (leaky : Bool) → IsReport (record { class = class; program = p }) text leaky → Reported (entered class ls entry) text leaky
+    program_reported text leaky reports = record { found = record { class = class; program = p }; settled = entry_settles; reports = reports }
+
+    pub program_stopped : (stop : TextStop) → Unsolved (record { class = class; program = p }) stop → Stopped (entered class ls entry) stop
+    program_stopped (Fault f) none = absurd none
+    program_stopped (EdgeLimit found) over = (record { found = record { class = class; program = p }; settled = entry_settles; over = over.0 }, over.1)
+    program_stopped OutOfMemory over = tt
 
 module _ (entry : Sig) (class list : List ℕ) where
-  pub class_stops : (stop : Stop) → NotBuilt 0 class stop → Stopped entry class list stop
-  class_stops (Fault f) refused = settles_stop (classes 0 class) (λ cs. lines 1 list >>= λ ls. entered cs ls entry) f (classes_refused 0 class f refused.0 refused.1)
-  class_stops OutOfMemory refused = tt
+  pub class_stops : (stop : Stop) → NotBuilt 0 class stop → Stopped (texts entry class list) (as_text stop)
+  class_stops (stops.Fault f) refused = settles_stop (read 0 class) (λ c. lines 1 list >>= λ ls. entered c ls entry) f (class_refused 0 class f refused.0 refused.1)
+  class_stops stops.OutOfMemory refused = tt
 
-  module _ (cs : List Class) (built : IsBuilt class cs) (only : (ds : List Class) → IsBuilt class ds → ds ≡ cs) where
-    behind_class : (r : Result Program InputFault) → Settles (lines 1 list >>= λ ls. entered cs ls entry) r → Settles (texts entry class list) r
-    behind_class r = settles_next (classes 0 class) (λ cs. lines 1 list >>= λ ls. entered cs ls entry) cs (classes_read 0 class cs built only) r
-
-    pub list_stops : (stop : Stop) → Unlisted list 1 stop → Stopped entry class list stop
-    list_stops (Fault f) refused = behind_class (Err f) (settles_stop (lines 1 list) (λ ls. entered cs ls entry) f (lines_refused 1 list f refused.0 refused.1))
-    list_stops OutOfMemory refused = tt
+  module _ (cs : List Class) (c : Class) (one : cs ≡ c ∷ []) (built : IsBuilt class cs) (only : (ds : List Class) → IsBuilt class ds → ds ≡ cs) where
+    pub list_stops : (stop : Stop) → Unlisted list 1 stop → Stopped (texts entry class list) (as_text stop)
+    list_stops (stops.Fault f) refused =
+        settles_next (read 0 class) (λ d. lines 1 list >>= λ ls. entered d ls entry) c (class_read 0 class cs c one built only) (Err f)
+        (settles_stop (lines 1 list) (λ ls. entered c ls entry) f (lines_refused 1 list f refused.0 refused.1))
+    list_stops stops.OutOfMemory refused = tt
 
     module _ (ls : List Line) (are : AreLines ls list) (others : (ms : List Line) → AreLines ms list → ms ≡ ls) where
-      behind_list : (r : Result Program InputFault) → Settles (entered cs ls entry) r → Settles (texts entry class list) r
-      behind_list r settled = behind_class r (settles_next (lines 1 list) (λ ls. entered cs ls entry) ls (lines_read 1 list ls are others) r settled)
+      pub both_reported : (text : List ℕ) (leaky : Bool) → Reported (entered c ls entry) text leaky → Reported (texts entry class list) text leaky
+      both_reported text leaky r =
+          reported_next (read 0 class) (λ d. lines 1 list >>= λ ls. entered d ls entry) c (class_read 0 class cs c one built only) text leaky
+          (reported_next (lines 1 list) (λ ls. entered c ls entry) ls (lines_read 1 list ls are others) text leaky r)
 
-      pub entry_stops : ((body : Body) → IsMethod cs entry body → ⊥) → Settles (texts entry class list) (Err EntryMissing)
-      entry_stops none = behind_list (Err EntryMissing) (entered_missing cs ls entry none)
-
-      pub body_reports : (body : Body) (text : List ℕ) (leaky : Bool) → IsMethod cs entry body
-          → (views : List View) × AreViews ls body.stmts views × Reports (machine views) entry body.locals text leaky → Reported entry class list text leaky
-      body_reports body text leaky method reported = record {
-        found = record { sig = entry; locals = body.locals; views = reported.0 };
-        settled = behind_list (Ok (record { sig = entry; locals = body.locals; views = reported.0 })) (entered_at cs ls entry body reported.0 method reported.1);
-        reports = reported.2;
-      }
+      pub both_stopped : (stop : TextStop) → Stopped (entered c ls entry) stop → Stopped (texts entry class list) stop
+      both_stopped stop r =
+          stopped_next (read 0 class) (λ d. lines 1 list >>= λ ls. entered d ls entry) c (class_read 0 class cs c one built only) stop
+          (stopped_next (lines 1 list) (λ ls. entered c ls entry) ls (lines_read 1 list ls are others) stop r)

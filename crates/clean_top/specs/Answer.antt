@@ -1,10 +1,10 @@
 -- What a call may answer, over its words, its files and its sinks (docs/COMMANDS.md, "Answers and their causes").
-use Rattle.std.specs.Prelude.{◌≡◌, ◌⊎◌, ℕ, zero, suc, ◌<◌, Bool, true, false, List, length, Option, Some}
+use Rattle.std.specs.Prelude.{◌≡◌, ◌⊎◌, ℕ, zero, suc, ◌+◌, ◌<◌, Bool, true, false, List, length, Option, Some}
 use Rattle.clean_base.specs.Device.{Rose, AppendsFirst}
 use Rattle.clean_base.specs.declared.fault.InputFault.TheVariants.{TooLong}
 use Rattle.clean_base.specs.declared.read.ReadStop.{ReadStop}
 use Rattle.clean_base.specs.declared.read.ReadStop.TheVariants as stops
-use Rattle.clean_top.specs.Meaning.{Files, Outcome, refused, report, Means}
+use Rattle.clean_top.specs.Meaning.{Files, Outcome, refused, over, report, edge_room, Means}
 use Rattle.clean_top.specs.Status.{error_text}
 use Rattle.clean_top.specs.Words.{Asked}
 use Rattle.clean_top.specs.declared.status.Status.{Status}
@@ -49,7 +49,7 @@ Says run asked Clean = (text : List ℕ) × Wrote run asked text false (length t
 Says run asked Leaks = (text : List ℕ) × Wrote run asked text true (length text)
 Says run asked Usage = ⊥
 Says run asked (Input f) = (run.new ≡ run.old) × IsMeant run asked (refused f)
-Says run asked (EdgeLimit found) = ⊥
+Says run asked (EdgeLimit found) = (run.new ≡ run.old) × IsMeant run asked over × (found ≡ edge_room + 1)
 Says run asked (ReadFault file) = (run.new ≡ run.old) × Rose (run.before (file_name asked file)) (run.now (file_name asked file))
 Says run asked (WriteFault written) = Rose run.first run.last × ((text : List ℕ) × (leaky : Bool) × (written < length text) × Wrote run asked text leaky written)
 Says run asked OutOfMemory = run.new ≡ run.old
@@ -68,6 +68,7 @@ IsWriteFault s = (written : ℕ) × (s ≡ WriteFault written)
 -- no other answer comes where the words and files mean this
 abbrev pub Answers : Run → Outcome → Status → Type 0
 Answers run (refused f) s = (s ≡ Input f) ⊎ IsReadFault s ⊎ (s ≡ OutOfMemory)
+Answers run over s = (s ≡ EdgeLimit (edge_room + 1)) ⊎ IsReadFault s ⊎ (s ≡ OutOfMemory)
 Answers run (report text leaky) s = ((s ≡ whole leaky) × AppendsFirst run.old run.new (length text) text) ⊎ IsReadFault s ⊎ IsWriteFault s ⊎ (s ≡ OutOfMemory)
 
 -- a call that was asked for this answers so

@@ -1,14 +1,8 @@
 pub mod Answer
-pub mod Flat
-pub mod Flow
 pub mod Meaning
-pub mod Only
 pub mod Report
-pub mod Set
 pub mod Stage
 pub mod Status
-pub mod Straight
 pub mod Texts
 pub mod Told
-pub mod Views
 pub mod Words

@@ -1,21 +1,25 @@
--- What words and files mean: a fault, or a report (docs/COMMANDS.md, "Refusals" and "Reports").
-use Rattle.std.specs.Prelude.{◌≡◌, ◌≢◌, ℕ, ◌≤◌, ◌<◌, Bool, List, [], ◌∷◌, length, Some, not}
+-- What words and files mean: a fault, too many path edges, or a report (docs/COMMANDS.md, "Refusals" and "Reports").
+use Rattle.std.specs.Prelude.{◌≡◌, ◌<◌, ◌≤◌, ◌-◌, ◌^◌, ℕ, Bool, List, [], ◌∷◌, length}
 use Rattle.clean_base.specs.declared.fault.InputFault.{InputFault}
 use Rattle.clean_base.specs.declared.fault.InputFault.TheVariants.{TooLong, NotYet, EntryMissing}
+use Rattle.clean_base.specs.declared.ids.MethodId.{MethodId}
+use Rattle.ifds_model.specs.Machine.{Machine}
+use Rattle.ifds_model.specs.Runs.{IsEdge}
+use Rattle.ifds_model.specs.declared.node.Leak.{Leak}
+use Rattle.core_driver.specs.More.{HasMoreThan}
+use Rattle.taint_problem.specs.Machine.{machine}
+use Rattle.taint_problem.specs.declared.fact.Fact.{Fact}
 use Rattle.jimple_text.specs.Built.{IsBuilt}
-use Rattle.jimple_tree.specs.declared.tree.Body.{Body}
 use Rattle.jimple_tree.specs.declared.tree.Class.{Class}
-use Rattle.jimple_tree.specs.declared.tree.Local.{Local}
-use Rattle.jimple_tree.specs.declared.tree.Method.{Method}
 use Rattle.jimple_tree.specs.declared.tree.Sig.{Sig}
 use Rattle.source_sink.specs.Lists.{AreLines}
 use Rattle.source_sink.specs.declared.line.Line.{Line}
+use Rattle.app_program.specs.Calls.{IsMethod}
+use Rattle.app_program.specs.Program.{IsProgram}
+use Rattle.app_program.specs.declared.program.Program.{Program}
 use Rattle.clean_top.specs.Report.{Reports}
 use Rattle.clean_top.specs.Stage.{Stage, ◌>>=◌}
-use Rattle.clean_top.specs.Straight.{machine}
-use Rattle.clean_top.specs.Views.{AreViews}
 use Rattle.clean_top.specs.Words.{Asked}
-use Rattle.clean_top.specs.declared.flow.View.{View}
 
 -- the bytes of the files that the words name
 pub record Files : Type 0 where
@@ -29,6 +33,10 @@ class_room = 268435456
 abbrev pub list_room : ℕ
 list_room = 16777216
 
+-- the most path edges
+abbrev pub edge_room : ℕ
+edge_room = 2 ^ 64 - 2
+
 -- a file has no more bytes than its room
 abbrev pub fits : ℕ → List ℕ → ℕ → Stage (Unit {0})
 fits file bytes room = record {
@@ -36,11 +44,11 @@ fits file bytes room = record {
   gives = λ done. length bytes ≤ room;
 }
 
--- a class file has the built form
-abbrev pub classes : ℕ → List ℕ → Stage (List Class)
-classes file bytes = record {
+-- a class file has the built form, with one class
+abbrev pub read : ℕ → List ℕ → Stage Class
+read file bytes = record {
   refuses = λ f. ((cs : List Class) → IsBuilt bytes cs → ⊥) × (f ≡ NotYet file);
-  gives = λ cs. IsBuilt bytes cs;
+  gives = λ class. IsBuilt bytes (class ∷ []);
 }
 
 -- a list has the built form
@@ -50,54 +58,53 @@ lines file bytes = record {
   gives = λ ls. AreLines ls bytes;
 }
 
--- a method with a body, in a class
-pub record IsMethod (cs : List Class) (s : Sig) (body : Body) : Type 0 where
+-- a program, with the class that it is made of
+pub record App : Type 0 where
   pub class : Class
-  pub method : Method
-  pub classes : cs ≡ class ∷ []
-  pub methods : class.methods ≡ method ∷ []
-  pub body_is : method.body ≡ Some body
-  pub sig_is : s ≡ record { class = class.name; result = method.result; name = method.name; params = method.params }
+  pub program : Program
 
--- the program: the method where it enters, with its locals and the views of its statements
-pub record Program : Type 0 where
-  pub sig : Sig
-  pub locals : List Local
-  pub views : List View
+-- the program as a stack machine
+abbrev pub machine_of : App → Machine Fact Leak
+machine_of app = machine app.program.code app.program.root
 
--- the entry names the method of the class
-pub record Enters (cs : List Class) (ls : List Line) (entry : Sig) (p : Program) : Type 0 where
-  pub body : Body
-  pub method : IsMethod cs entry body
-  pub sig_is : p.sig ≡ entry
-  pub locals_are : p.locals ≡ body.locals
-  pub views_are : AreViews ls body.stmts p.views
-
-abbrev pub entered : List Class → List Line → Sig → Stage Program
-entered cs ls entry = record {
-  refuses = λ f. ((body : Body) → IsMethod cs entry body → ⊥) × (f ≡ EntryMissing);
-  gives = Enters cs ls entry;
+-- the entry names a method of the class
+abbrev pub entered : Class → List Line → Sig → Stage App
+entered class ls entry = record {
+  refuses = λ f. ((n : MethodId) → IsMethod class entry n → ⊥) × (f ≡ EntryMissing);
+  gives = λ app. (app.class ≡ class) × IsProgram class ls entry app.program;
 }
 
 -- the program of a class text and a list text
-abbrev pub texts : Sig → List ℕ → List ℕ → Stage Program
+abbrev pub texts : Sig → List ℕ → List ℕ → Stage App
 texts entry class list =
-    classes 0 class >>= λ cs.
+    read 0 class >>= λ c.
     lines 1 list >>= λ ls.
-    entered cs ls entry
+    entered c ls entry
 
 -- the program that the words and files give, or the first fault of the files
-abbrev pub program : Asked → Files → Stage Program
+abbrev pub program : Asked → Files → Stage App
 program asked files =
     fits 0 files.class class_room >>= λ class_fits.
     fits 1 files.list list_room >>= λ list_fits.
     texts asked.entry files.class files.list
 
--- a refusal, or a text to write, which has leaks or not
+-- the program has more path edges than there is room for
+abbrev pub IsOver : App → Type 0
+IsOver app = HasMoreThan (IsEdge (machine_of app)) edge_room
+
+-- it has no more, and this is its report
+pub record IsReport (app : App) (text : List ℕ) (leaky : Bool) : Type 0 where
+  pub edges : ℕ
+  pub within : edges ≤ edge_room
+  pub reports : Reports (machine_of app) app.class app.program.code edges text leaky
+
+-- a refusal, too many path edges, or a text to write, which has leaks or not
 pub data Outcome : Type 0 where
   refused : InputFault → Outcome
+  over : Outcome
   report : List ℕ → Bool → Outcome
 
 abbrev pub Means : Asked → Files → Outcome → Type 0
 Means asked files (refused f) = (program asked files).refuses f
-Means asked files (report text leaky) = (p : Program) × (program asked files).gives p × Reports (machine p.views) p.sig p.locals text leaky
+Means asked files over = (app : App) × (program asked files).gives app × IsOver app
+Means asked files (report text leaky) = (app : App) × (program asked files).gives app × IsReport app text leaky

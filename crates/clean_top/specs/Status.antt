@@ -1,5 +1,5 @@
 -- How calls end, and what they write to the standard error (docs/COMMANDS.md, "Statuses" and "Lines on the standard error").
-use Rattle.std.specs.Prelude.{◌≡◌, ℕ, zero, suc, ◌-◌, List, [], ◌∷◌, ◌++◌, codes, decimal}
+use Rattle.std.specs.Prelude.{ℕ, zero, suc, ◌-◌, List, [], ◌++◌, codes, decimal}
 use Rattle.clean_base.specs.declared.fault.InputFault.{InputFault}
 use Rattle.clean_base.specs.declared.fault.InputFault.TheVariants.{TooLong, BadByte, OpenText, EntryMissing, NotYet}
 use Rattle.clean_top.specs.Words.{word}

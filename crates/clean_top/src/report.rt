@@ -1,15 +1,15 @@
 // The report: a line for each leak, and the numbers of path edges and contexts.
 ghost use Rattle.std.specs.Prelude.{◌≡◌, ◌++◌, OnOk, IfOk, List, codes, decimal, flat_map, map};
-ghost use Rattle.clean_top.specs.Report.{brackets, type_text, types_text, front_text, method_text, stmt_text, local_name, line_of, line_text, count_text, report_text, Shows, Reports};
+ghost use Rattle.clean_top.specs.Report.{brackets, type_text, types_text, front_text, method_text, method_text_at, method_of, place_of, stmt_text, locals_of, local_name, line_of, line_text, count_text, report_text, Shows, Reports};
 ghost use Rattle.ifds_model.specs.Runs.{IsEdge, IsContext, IsLeak, Lists, HasCount};
 ghost use Rattle.clean_top.specs.declared.report.Line.{Line};
 
-use crate::solver::Answer;
-use clean_base::{LocalId, Seq, StmtId};
+use clean_base::{LocalId, MethodId, Name, Seq, StmtId};
 use ifds_model::{Leak, Problem};
 use itoa::Buffer;
-use jimple_tree::{JType, Local, Sig};
+use jimple_tree::{Class, JType, Local, Method};
 use std::alloc::{AllocError, Global};
+use taint_problem::Code;
 
 /// What a line shows of a leak. Lines are ordered by their sinks, their sources and the bytes of their paths.
 #[derive(Debug, Drop, PartialEq, Eq, PartialOrd, Ord)]
@@ -62,35 +62,79 @@ fn write_more_types(out: &mut Vec<u8>, types: &[JType]) -> Result<(), AllocError
     Ok(())
 }
 
-// The class and the result type of a signature.
-fn write_front(out: &mut Vec<u8>, sig: &Sig) -> Result<(), AllocError>
-    ensures { OnOk result (out.new.items ≡ out.old.items ++ front_text sig.now) }
+// The class and the result type of a method.
+fn write_front(out: &mut Vec<u8>, class: &Name, ty: &JType) -> Result<(), AllocError>
+    ensures { OnOk result (out.new.items ≡ out.old.items ++ front_text class.now ty.now) }
 {
     out.extend_from_slice(b"<")?;
-    out.extend_from_slice(sig.class.bytes())?;
+    out.extend_from_slice(class.bytes())?;
     out.extend_from_slice(b": ")?;
-    write_type(out, &sig.result)?;
+    write_type(out, ty)?;
     out.extend_from_slice(b" ")
 }
 
-// The text of a method.
-fn write_method(out: &mut Vec<u8>, sig: &Sig) -> Result<(), AllocError>
-    ensures { OnOk result (out.new.items ≡ out.old.items ++ method_text sig.now) }
+// The text of a method of the class with that name.
+fn write_method(out: &mut Vec<u8>, class: &Name, method: &Method) -> Result<(), AllocError>
+    ensures { OnOk result (out.new.items ≡ out.old.items ++ method_text class.now method.now) }
 {
-    write_front(out, sig)?;
-    out.extend_from_slice(sig.name.bytes())?;
+    write_front(out, class, &method.result)?;
+    out.extend_from_slice(method.name.bytes())?;
     out.extend_from_slice(b"(")?;
-    write_types(out, sig.params.as_slice())?;
+    write_types(out, method.params.as_slice())?;
     out.extend_from_slice(b")>")
 }
 
-// The text of a statement of the method with that text.
-fn write_stmt(out: &mut Vec<u8>, method: &[u8], at: StmtId) -> Result<(), AllocError>
-    ensures { OnOk result (out.new.items ≡ out.old.items ++ stmt_text method.now at) }
+// The text of the method with that number, where there is one.
+fn write_method_at(out: &mut Vec<u8>, class: &Class, m: MethodId) -> Result<(), AllocError>
+    ensures { OnOk result (out.new.items ≡ out.old.items ++ method_text_at class.now m) }
 {
-    out.extend_from_slice(method)?;
+    match class.methods.as_slice().get(m.0 as usize) {
+        Some(method) => write_method(out, &class.name, method),
+        None => Ok(()),
+    }
+}
+
+// The method in which a statement stands.
+fn method_of(code: &Code, s: StmtId) -> MethodId
+    ensures { result ≡ method_of code.now s }
+{
+    match code.owners.as_slice().get(s.0 as usize) {
+        Some(method) => *method,
+        None => MethodId(0),
+    }
+}
+
+// The place of a statement in the body of its method.
+fn place_of(code: &Code, s: StmtId) -> u32
+    ensures { result ≡ place_of code.now s }
+{
+    let method = method_of(code, s);
+    match code.firsts.as_slice().get(method.0 as usize) {
+        Some(first) => s.0.saturating_sub(first.0),
+        None => s.0,
+    }
+}
+
+// The text of a statement.
+fn write_stmt(out: &mut Vec<u8>, class: &Class, code: &Code, s: StmtId) -> Result<(), AllocError>
+    ensures { OnOk result (out.new.items ≡ out.old.items ++ stmt_text class.now code.now s) }
+{
+    write_method_at(out, class, method_of(code, s))?;
     out.extend_from_slice(b"#")?;
-    write_number(out, at.0 as u64)
+    write_number(out, place_of(code, s) as u64)
+}
+
+// The locals of the method with that number.
+fn locals_of(class: &Class, m: MethodId) -> &[Local]
+    ensures { result.now ≡ locals_of class.now m }
+{
+    match class.methods.as_slice().get(m.0 as usize) {
+        Some(method) => match &method.body {
+            Some(body) => body.locals.as_slice(),
+            None => &[],
+        },
+        None => &[],
+    }
 }
 
 // The name of a local.
@@ -103,22 +147,23 @@ fn name_of(locals: &[Local], x: LocalId) -> &[u8]
     }
 }
 
-fn write_line(out: &mut Vec<u8>, method: &[u8], line: &Line) -> Result<(), AllocError>
-    ensures { OnOk result (out.new.items ≡ out.old.items ++ line_text method.now line.now) }
+fn write_line(out: &mut Vec<u8>, class: &Class, code: &Code, line: &Line) -> Result<(), AllocError>
+    ensures { OnOk result (out.new.items ≡ out.old.items ++ line_text class.now code.now line.now) }
 {
     out.extend_from_slice(b"leak ")?;
-    write_stmt(out, method, line.sink)?;
+    write_stmt(out, class, code, line.sink)?;
     out.extend_from_slice(b" from ")?;
-    write_stmt(out, method, line.source)?;
+    write_stmt(out, class, code, line.source)?;
     out.extend_from_slice(b" at ")?;
     out.extend_from_slice(line.path.as_slice())?;
     out.extend_from_slice(b"\n")
 }
 
 // What a line shows of a leak.
-fn line_of(alloc: Global, locals: &[Local], leak: Leak) -> Result<Line, AllocError>
-    ensures { IfOk result (λ line. line ≡ line_of locals.now leak) }
+fn line_of(alloc: Global, class: &Class, code: &Code, leak: Leak) -> Result<Line, AllocError>
+    ensures { IfOk result (λ line. line ≡ line_of class.now code.now leak) }
 {
+    let locals = locals_of(class, method_of(code, leak.sink));
     let path = Vec::from_slice(alloc, name_of(locals, leak.base))?;
     Ok(Line {
         sink: leak.sink,
@@ -128,30 +173,45 @@ fn line_of(alloc: Global, locals: &[Local], leak: Leak) -> Result<Line, AllocErr
 }
 
 // The lines of the leaks, in the leaks' order.
-fn lines_of(alloc: Global, locals: &[Local], leaks: &[Leak]) -> Result<Vec<Line>, AllocError>
-    ensures { IfOk result (λ lines. lines.items ≡ map (line_of locals.now) leaks.now) }
+fn lines_of(
+    alloc: Global,
+    class: &Class,
+    code: &Code,
+    leaks: &[Leak],
+) -> Result<Vec<Line>, AllocError>
+    ensures { IfOk result (λ lines. lines.items ≡ map (line_of class.now code.now) leaks.now) }
 {
     let mut lines = Vec::new(alloc);
     for leak in leaks {
-        lines.push(line_of(alloc, locals, *leak)?)?;
+        lines.push(line_of(alloc, class, code, *leak)?)?;
     }
     Ok(lines)
 }
 
 // The lines of the leaks, in their own order.
-fn sorted_lines(alloc: Global, locals: &[Local], leaks: &[Leak]) -> Result<Vec<Line>, AllocError>
-    ensures { IfOk result (λ lines. Shows locals.now leaks.now lines.items) }
+fn sorted_lines(
+    alloc: Global,
+    class: &Class,
+    code: &Code,
+    leaks: &[Leak],
+) -> Result<Vec<Line>, AllocError>
+    ensures { IfOk result (λ lines. Shows class.now code.now leaks.now lines.items) }
 {
-    let mut lines = lines_of(alloc, locals, leaks)?;
+    let mut lines = lines_of(alloc, class, code, leaks)?;
     lines.sort()?;
     Ok(lines)
 }
 
-fn write_lines(out: &mut Vec<u8>, method: &[u8], lines: &[Line]) -> Result<(), AllocError>
-    ensures { OnOk result (out.new.items ≡ out.old.items ++ flat_map (line_text method.now) lines.now) }
+fn write_lines(
+    out: &mut Vec<u8>,
+    class: &Class,
+    code: &Code,
+    lines: &[Line],
+) -> Result<(), AllocError>
+    ensures { OnOk result (out.new.items ≡ out.old.items ++ flat_map (line_text class.now code.now) lines.now) }
 {
     for line in lines {
-        write_line(out, method, line)?;
+        write_line(out, class, code, line)?;
     }
     Ok(())
 }
@@ -175,37 +235,38 @@ pub struct Report {
 // The text of a report with these lines.
 fn write_report(
     alloc: Global,
-    sig: &Sig,
+    class: &Class,
+    code: &Code,
     lines: &[Line],
     edges: u64,
     contexts: u64,
 ) -> Result<Vec<u8>, AllocError>
-    ensures { IfOk result (λ text. text.items ≡ report_text sig.now lines.now edges contexts) }
+    ensures { IfOk result (λ text. text.items ≡ report_text class.now code.now lines.now edges contexts) }
 {
-    let mut method = Vec::new(alloc);
-    write_method(&mut method, sig)?;
     let mut out = Vec::new(alloc);
-    write_lines(&mut out, method.as_slice(), lines)?;
+    write_lines(&mut out, class, code, lines)?;
     write_count(&mut out, b"edges ", edges)?;
     write_count(&mut out, b"contexts ", contexts)?;
     Ok(out)
 }
 
-/// The report of what a solver found in a method.
+/// The report of what a solver found in the code of a class: its leaks, and the numbers of path edges and contexts.
 pub fn make_report<P: Problem<Mark = Leak>>(
     alloc: Global,
     problem: &P,
-    sig: &Sig,
-    locals: &[Local],
-    answer: &Answer<Leak>,
+    class: &Class,
+    code: &Code,
+    leaks: &[Leak],
+    edges: u64,
+    contexts: u64,
 ) -> Result<Report, AllocError>
-    requires marks { Lists (IsLeak (P.machine problem.now)) answer.now.marks.items }
-    requires edges { HasCount (IsEdge (P.machine problem.now)) answer.now.edges }
-    requires contexts { HasCount (IsContext (P.machine problem.now)) answer.now.contexts }
-    ensures { IfOk result (λ r. Reports (P.machine problem.now) sig.now locals.now r.text.items r.leaky) }
+    requires leaks { Lists (IsLeak (P.machine problem.now)) leaks.now }
+    requires edges { HasCount (IsEdge (P.machine problem.now)) edges }
+    requires contexts { HasCount (IsContext (P.machine problem.now)) contexts }
+    ensures { IfOk result (λ r. Reports (P.machine problem.now) class.now code.now edges r.text.items r.leaky) }
 {
-    let lines = sorted_lines(alloc, locals, answer.marks.as_slice())?;
-    let text = write_report(alloc, sig, lines.as_slice(), answer.edges, answer.contexts)?;
+    let lines = sorted_lines(alloc, class, code, leaks)?;
+    let text = write_report(alloc, class, code, lines.as_slice(), edges, contexts)?;
     Ok(Report {
         text,
         leaky: lines.len() > 0,

@@ -7,9 +7,9 @@ ghost use Rattle.clean_top.specs.Words.{Asked, Asks, IsUsage};
 use crate::complain::complain;
 use crate::report::Report;
 use crate::status::Status;
-use crate::text::read_and_report;
+use crate::text::{TextStop, read_and_report};
 use crate::words::{Words, parse};
-use clean_base::{InputFault, ReadStop, Shelf, Sink, Stop, Word, put_all, read_all};
+use clean_base::{InputFault, ReadStop, Shelf, Sink, Word, put_all, read_all};
 use std::alloc::Global;
 
 // The most bytes of class text, and of a list.
@@ -56,8 +56,9 @@ fn serve<S: Shelf, K: Sink>(alloc: Global, asked: &Words<'_>, shelf: &mut S, out
     };
     match read_and_report(alloc, &asked.entry, class.as_slice(), list.as_slice()) {
         Ok(report) => write_out(out, &report),
-        Err(Stop::Fault(fault)) => Status::Input(fault),
-        Err(Stop::OutOfMemory) => Status::OutOfMemory,
+        Err(TextStop::Fault(fault)) => Status::Input(fault),
+        Err(TextStop::EdgeLimit { found }) => Status::EdgeLimit { found },
+        Err(TextStop::OutOfMemory) => Status::OutOfMemory,
     }
 }
 

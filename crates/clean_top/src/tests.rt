@@ -38,11 +38,15 @@ fn words_of(alloc: Global, texts: &[&str]) -> Result<Vec<Word>, AllocError> {
     Ok(words)
 }
 
+// A class file `A.jimple` with these methods.
+fn class_with(alloc: Global, supertype: &str, methods: &str) -> Result<String, AllocError> {
+    format!(in alloc; "public class A extends {supertype} {{ {methods} }}")
+}
+
 // A class file `A.jimple` with one method `m` of this body.
 fn class_of(alloc: Global, body: &str) -> Result<String, AllocError> {
-    format!(in alloc;
-        "public class A extends java.lang.Object {{ public static void m() {{ {body} }} }}"
-    )
+    let method = format!(in alloc; "public static void m() {{ {body} }}")?;
+    class_with(alloc, "java.lang.Object", method.as_str())
 }
 
 fn shelf_of(alloc: Global, class: &str, list: &[u8], fail: &[u64]) -> Result<MemShelf, AllocError> {
@@ -151,8 +155,15 @@ fn worked_rows(rt: HostRuntime) -> Result<(), Fail> {
             "",
             1,
         ),
-        ("nop; return;", LIST, "<A: void m()>", "", unbuilt, 3),
-        ("nop; return;", bad_list, "<A: void n()>", "", unbuilt, 3),
+        ("throw 1; return;", LIST, "<A: void m()>", "", unbuilt, 3),
+        (
+            "throw 1; return;",
+            bad_list,
+            "<A: void n()>",
+            "",
+            unbuilt,
+            3,
+        ),
         (
             "return;",
             bad_list,
@@ -181,6 +192,58 @@ fn worked_rows(rt: HostRuntime) -> Result<(), Fail> {
             code,
         };
         expect_case(&rt, rt.alloc(), &case)?;
+    }
+    Ok(())
+}
+
+#[test]
+fn calls_and_returns(rt: HostRuntime) -> Result<(), Fail> {
+    // The class that is extended, the methods, and the output. The numbers of edges are counted by hand: for each context
+    // how many statements each fact reaches.
+    let cases = [
+        // Zero 5, i0 4, i1 3; `id` from zero 2, and from its parameter 3.
+        (
+            "java.lang.Object",
+            "public static void m() { int i0, i1, i2; i0 = staticinvoke <S: int src()>(); i1 = staticinvoke <A: int id(int)>(i0); i2 = staticinvoke <A: int id(int)>(0); staticinvoke <S: void snk(int)>(i2); return; }
+             public static int id(int) { int x; x := @parameter0: int; return x; }",
+            "edges 17\ncontexts 3\n",
+        ),
+        // Zero 11, i0 10, i1 9, i2 2; `id` as before.
+        (
+            "java.lang.Object",
+            "public static void m() { int i0, i1, i2; i0 = staticinvoke <S: int src()>(); i1 = staticinvoke <A: int id(int)>(i0); nop; nop; nop; nop; nop; nop; i2 = staticinvoke <A: int id(int)>(i1); staticinvoke <S: void snk(int)>(i2); return; }
+             public static int id(int) { int x; x := @parameter0: int; return x; }",
+            "leak <A: void m()>#9 from <A: void m()>#0 at i2\nedges 37\ncontexts 3\n",
+        ),
+        // Zero 3, i0 2; `n` from zero 3, and from its parameter 3 and 2.
+        (
+            "java.lang.Object",
+            "public static void m() { int i0; i0 = staticinvoke <S: int src()>(); staticinvoke <A: void n(int)>(i0); return; }
+             public static void n(int) { int x; x := @parameter0: int; staticinvoke <S: void snk(int)>(x); return; }",
+            "leak <A: void n(int)>#1 from <A: void m()>#0 at x\nedges 13\ncontexts 3\n",
+        ),
+        // A sink of the class that is extended: Zero 3, i0 2, and `snk` is not entered.
+        (
+            "S",
+            "public static void m() { int i0; i0 = staticinvoke <S: int src()>(); staticinvoke <A: void snk(int)>(i0); return; }
+             public static void snk(int) { int x; x := @parameter0: int; return; }",
+            "leak <A: void m()>#1 from <A: void m()>#0 at i0\nedges 5\ncontexts 1\n",
+        ),
+    ];
+    let words = [
+        "serial",
+        "--entry",
+        "<A: void m()>",
+        "--lists",
+        "L",
+        "A.jimple",
+    ];
+    for (supertype, methods, out) in cases {
+        let class = class_with(rt.alloc(), supertype, methods)?;
+        let shelf = shelf_of(rt.alloc(), class.as_str(), LIST.as_bytes(), &[])?;
+        let served = serve(rt.alloc(), &words, shelf, 4096, 4096)?;
+        let code = if out.starts_with("leak") { 1 } else { 0 };
+        expect(&rt, &served, out, "", code);
     }
     Ok(())
 }

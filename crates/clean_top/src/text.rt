@@ -1,32 +1,111 @@
 // From the texts of a class file and a list to the report.
-ghost use Rattle.std.specs.Prelude.{◌≡◌, ◌<◌, ◌≤◌, ◌^◌, List, IfOk, IfErr, length};
-ghost use Rattle.clean_top.specs.Report.{Reports};
-ghost use Rattle.clean_top.specs.Straight.{machine};
-ghost use Rattle.clean_top.specs.Texts.{Reported, Stopped};
-ghost use Rattle.clean_top.specs.Views.{AreViews};
-ghost use Rattle.clean_top.specs.declared.flow.View.{View};
+ghost use Rattle.std.specs.Prelude.{◌≡◌, ◌<◌, ◌^◌, IfOk, IfErr, length};
+ghost use Rattle.jimple_tree.specs.Bodies.{IsOfBodies};
+ghost use Rattle.taint_problem.specs.Code.{IsWhole};
+ghost use Rattle.clean_top.specs.Meaning.{IsReport, entered, texts};
+ghost use Rattle.clean_top.specs.Texts.{Unsolved, Reported, Stopped};
 
-use crate::entry::entry_body;
 use crate::report::{Report, make_report};
-use crate::solver::solve;
-use crate::straight::Straight;
-use crate::views::views_of;
+use app_program::{Program, assemble};
 use clean_base::{InputFault, Stop};
+use core_driver::finish;
 use jimple_text::read_classes;
-use jimple_tree::{Body, Sig};
+use jimple_tree::{Class, Sig};
+use solver_core::{CommitStop, State};
 use source_sink::{Lists, read_lists};
 use std::alloc::{AllocError, Global};
+use taint_problem::TaintProblem;
 
-// The report of a body.
-fn report_of(alloc: Global, lists: &Lists, entry: &Sig, body: &Body) -> Result<Report, AllocError>
-    requires { length body.now.stmts ≤ 2 ^ 32 }
-    ensures { IfOk result (λ r. (views : List View) × AreViews lists.now body.now.stmts views
-        × Reports (machine views) entry.now body.now.locals r.text.items r.leaky) }
+// A sweep is due after so many commits. Nothing is dropped yet, so it has no effect.
+const PERIOD: u64 = 256;
+
+// The most path edges.
+const EDGE_ROOM: u64 = 18446744073709551614;
+
+/// Why texts give no report.
+#[derive(Debug, Drop)]
+pub enum TextStop {
+    Fault(InputFault),
+    /// The program has more path edges than there is room for: so many at least.
+    EdgeLimit { found: u64 },
+    OutOfMemory,
+}
+
+impl From<AllocError> for TextStop {
+    ghost use Rattle.std.specs.Prelude.{◌≡◌};
+    ghost use Rattle.clean_top.specs.declared.text.TextStop.TheVariants.{OutOfMemory};
+
+    ghost from_gives = { λ _ t. t ≡ OutOfMemory };
+
+    fn from(_stop: AllocError) -> TextStop {
+        TextStop::OutOfMemory
+    }
+}
+
+impl From<Stop> for TextStop {
+    ghost use Rattle.std.specs.Prelude.{◌≡◌};
+    ghost use Rattle.clean_top.specs.Texts.{as_text};
+
+    ghost from_gives = { λ stop t. t ≡ as_text stop };
+
+    fn from(stop: Stop) -> TextStop {
+        match stop {
+            Stop::Fault(fault) => TextStop::Fault(fault),
+            Stop::OutOfMemory => TextStop::OutOfMemory,
+        }
+    }
+}
+
+impl From<CommitStop> for TextStop {
+    ghost use Rattle.std.specs.Prelude.{◌≡◌};
+    ghost use Rattle.clean_top.specs.Texts.{as_solved};
+
+    ghost from_gives = { λ stop t. t ≡ as_solved stop };
+
+    fn from(stop: CommitStop) -> TextStop {
+        match stop {
+            CommitStop::EdgeLimit { found } => TextStop::EdgeLimit { found },
+            CommitStop::OutOfMemory => TextStop::OutOfMemory,
+        }
+    }
+}
+
+// Solves a program.
+fn report_of(alloc: Global, class: &Class, program: &Program) -> Result<Report, TextStop>
+    requires whole { IsWhole program.now.code }
+    requires root { program.now.root.0 < length program.now.code.firsts }
+    ensures ok { IfOk result (λ r. IsReport (record { class = class.now; program = program.now }) r.text.items r.leaky) }
+    ensures err { IfErr result (Unsolved (record { class = class.now; program = program.now })) }
 {
-    let views = views_of(alloc, lists, body.stmts.as_slice())?;
-    let problem = Straight::new(alloc, views.as_slice());
-    let answer = solve(alloc, &problem)?;
-    make_report(alloc, &problem, entry, body.locals.as_slice(), &answer)
+    let code = &program.code;
+    let problem = TaintProblem::new(code, program.root);
+    let state = State::open(alloc, &problem, PERIOD, EDGE_ROOM, 1)?;
+    let answer = finish(alloc, state)?;
+    let leaks = answer.marks.as_slice();
+    Ok(make_report(
+        alloc,
+        &problem,
+        class,
+        code,
+        leaks,
+        answer.edges,
+        answer.contexts,
+    )?)
+}
+
+// The report of a class and a list.
+fn class_report(
+    alloc: Global,
+    class: &Class,
+    lists: &Lists,
+    entry: &Sig,
+) -> Result<Report, TextStop>
+    requires { IsOfBodies class.now }
+    ensures ok { IfOk result (λ r. Reported (entered class.now lists.now entry.now) r.text.items r.leaky) }
+    ensures err { IfErr result (Stopped (entered class.now lists.now entry.now)) }
+{
+    let program = assemble(alloc, class, lists, entry)?;
+    report_of(alloc, class, &program)
 }
 
 /// The report of the program that the texts give, entered at a method.
@@ -35,24 +114,15 @@ pub fn read_and_report(
     entry: &Sig,
     class: &[u8],
     list: &[u8],
-) -> Result<Report, Stop>
+) -> Result<Report, TextStop>
     requires { length class.now < 2 ^ 32 }
-    ensures ok { IfOk result (λ r. Reported entry.now class.now list.now r.text.items r.leaky) }
-    ensures err { IfErr result (Stopped entry.now class.now list.now) }
+    ensures ok { IfOk result (λ r. Reported (texts entry.now class.now list.now) r.text.items r.leaky) }
+    ensures err { IfErr result (Stopped (texts entry.now class.now list.now)) }
 {
-    let classes = match read_classes(alloc, class, 0) {
-        Ok(classes) => classes,
-        Err(stop) => return Err(stop),
+    let classes = read_classes(alloc, class, 0)?;
+    let lists = read_lists(alloc, list, 1)?;
+    let [class] = classes.as_slice() else {
+        unreachable!()
     };
-    let lists = match read_lists(alloc, list, 1) {
-        Ok(lists) => lists,
-        Err(stop) => return Err(stop),
-    };
-    match entry_body(classes.as_slice(), entry) {
-        None => Err(Stop::Fault(InputFault::EntryMissing)),
-        Some(body) => match report_of(alloc, &lists, entry, body) {
-            Ok(report) => Ok(report),
-            Err(_) => Err(Stop::OutOfMemory),
-        },
-    }
+    class_report(alloc, class, &lists, entry)
 }

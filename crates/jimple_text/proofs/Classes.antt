@@ -21,7 +21,8 @@ use Rattle.jimple_text.specs.Built.{IsClassOf}
 use Rattle.jimple_text.proofs.Starts.{laws}
 use Rattle.jimple_text.proofs.SureFile.{sure_file}
 use Rattle.jimple_text.proofs.Whole.{told_ok, told_err, stops_behind}
-use Rattle.jimple_text.proofs.Resolved.{refuses, one_class}
+use Rattle.jimple_text.proofs.Refused.{refuses}
+use Rattle.jimple_text.proofs.Resolved.{one_class}
 
 stops_none : {A : Type 0} (g : Grammar A) (ts left : List Lexeme) (why : ℕ) → StopsAt g ts left why → (w : A) → Spells g ts w → ⊥
 stops_none g ts [] why s w h = s.refused w (subst (λ (us : List Lexeme). Spells g us w) (s.parts ∙ append-nil s.front) h)

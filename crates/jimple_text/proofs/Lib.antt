@@ -12,5 +12,12 @@ pub mod ByLength
 pub mod Locals
 pub mod Finding
 pub mod Found
+pub mod Digits
+pub mod Refused
+pub mod Each
+pub mod Keys
+pub mod Alike
 pub mod Resolved
+pub mod Counted
+pub mod OfBodies
 pub mod Classes

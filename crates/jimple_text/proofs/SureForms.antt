@@ -4,7 +4,7 @@ use Rattle.jimple_text.specs.declared.kind.Kind.TheVariants as kinds
 use Rattle.jimple_text.specs.Kind.{Kinds}
 use Rattle.jimple_text.specs.Grammar.{Grammar, ends, ◌*>◌, times}
 use Rattle.jimple_text.specs.Reading.{first}
-use Rattle.jimple_text.specs.Forms.{sign, name, ty, others, several_names, several_types, params, sig, imm, next_imm, args, call, rhs, assign, call_stmt, stmt, returned, stmts, decl}
+use Rattle.jimple_text.specs.Forms.{sign, name, ty, others, several_names, several_types, params, sig, imm, next_imm, args, call, rhs, param, local_value, assign, nop, call_stmt, stmt, returned_value, returned, coded, code, decl}
 use Rattle.jimple_text.proofs.Starts.{disjoint, next}
 use Rattle.jimple_text.proofs.Sure.{Sure, plain_sure}
 
@@ -51,25 +51,41 @@ pub sure_rhs : (after : Kinds) → Sure rhs after
 unfolding rhs imm call
 sure_rhs after = search (sure_imm, sure_call)
 
+pub sure_param : (after : Kinds) → Sure param after
+unfolding param
+sure_param after = search rules
+
+pub sure_local_value : (after : Kinds) → Sure local_value after
+unfolding local_value param
+sure_local_value after = ((tt, sure_param after), (tt, sure_rhs after), refl, refl)
+
 pub sure_assign : (after : Kinds) → Sure assign after
 unfolding assign
-sure_assign after = search sure_rhs
+sure_assign after = search sure_local_value
+
+pub sure_nop : (after : Kinds) → Sure nop after
+unfolding nop
+sure_nop after = search rules
 
 pub sure_call_stmt : (after : Kinds) → Sure call_stmt after
 unfolding call_stmt
 sure_call_stmt after = search sure_call
 
 pub sure_stmt : (after : Kinds) → Sure stmt after
-unfolding stmt assign call_stmt call
-sure_stmt after = (sure_assign after, sure_call_stmt after, refl, refl)
+unfolding stmt assign nop call_stmt call
+sure_stmt after = (sure_assign after, (sure_nop after, sure_call_stmt after, refl, refl), refl, refl)
+
+sure_returned_value : Sure returned_value (kinds.Semicolon ∷ [])
+unfolding returned_value imm
+sure_returned_value = ((tt, sure_imm (kinds.Semicolon ∷ [])), tt, refl, refl)
 
 pub sure_returned : (after : Kinds) → Sure returned after
 unfolding returned
-sure_returned after = (tt, tt)
+sure_returned after = ((tt, sure_returned_value), tt)
 
-pub sure_stmts : (after : Kinds) → Sure stmts after
-unfolding stmts stmt assign call_stmt call returned
-sure_stmts after = plain_sure (λ xs end. xs) stmt returned after (sure_stmt (first stmt ++ next returned after)) (sure_returned after) refl refl
+pub sure_code : (after : Kinds) → Sure code after
+unfolding code stmt assign nop call_stmt call returned
+sure_code after = plain_sure coded stmt returned after (sure_stmt (first stmt ++ next returned after)) (sure_returned after) refl refl
 
 pub sure_decl : (after : Kinds) → Sure decl after
 unfolding decl several_names

@@ -1,11 +1,12 @@
 -- The forms of the grammar built so far (docs/FORMATS.md, "Grammar built so far").
-use Rattle.std.specs.Prelude.{ℕ, zero, suc, List, [], ◌∷◌, ◌++◌, length}
+use Rattle.std.specs.Prelude.{ℕ, zero, suc, List, [], ◌∷◌, ◌++◌, length, Option, Some, None}
 use Rattle.jimple_text.specs.declared.kind.Kind.{Kind}
 use Rattle.jimple_text.specs.declared.kind.Kind.TheVariants as kinds
 use Rattle.jimple_text.specs.declared.lexeme.Lexeme.{Lexeme}
 use Rattle.jimple_text.specs.declared.raw.RawClass.{RawClass}
 use Rattle.jimple_text.specs.declared.raw.RawMethod.{RawMethod}
 use Rattle.jimple_text.specs.declared.raw.RawBody.{RawBody}
+use Rattle.jimple_text.specs.declared.raw.RawCode.{RawCode}
 use Rattle.jimple_text.specs.declared.raw.RawDecl.{RawDecl}
 use Rattle.jimple_text.specs.declared.raw.RawStmt.{RawStmt}
 use Rattle.jimple_text.specs.declared.raw.RawStmt.TheVariants as stmts_are
@@ -79,32 +80,47 @@ call = given (λ sig args. record { sig = sig; args = args }) (sign kinds.Static
 unfoldable pub rhs : Grammar RawRhs
 rhs = either (nothing sides.Use <*> imm) (nothing sides.Call <*> call)
 
--- stmt = local "=" rhs ";" | call ";"
+-- "@" parameterN ":" type, where a rule on names says which words are parameterN
+unfoldable pub param : Grammar RawRhs
+param = nothing (λ word ty. sides.Param word ty) <* sign kinds.At <*> name <* sign kinds.Colon <*> ty
+
+-- what a local is given: ":=" "@" parameterN ":" type | "=" rhs
+unfoldable pub local_value : Grammar RawRhs
+local_value = either (sign kinds.ColonEquals *> param) (sign kinds.Equals *> rhs)
+
+-- stmt = local ":=" "@" parameterN ":" type ";" | "nop" ";" | local "=" rhs ";" | call ";", where the local stands once before both of its forms
 abbrev pub assigned : Lexeme → RawRhs → RawStmt
 assigned x r = stmts_are.Assign x r
 
 unfoldable pub assign : Grammar RawStmt
-assign = both assigned name (sign kinds.Equals *> rhs <* sign kinds.Semicolon)
+assign = both assigned name (local_value <* sign kinds.Semicolon)
+
+unfoldable pub nop : Grammar RawStmt
+nop = nothing stmts_are.Nop <* sign kinds.Nop <* sign kinds.Semicolon
 
 unfoldable pub call_stmt : Grammar RawStmt
 call_stmt = nothing stmts_are.Call <*> call <* sign kinds.Semicolon
 
 unfoldable pub stmt : Grammar RawStmt
-stmt = either assign call_stmt
+stmt = either assign (either nop call_stmt)
 
-abbrev pub second : Lexeme → Lexeme → Lexeme
-second x y = y
+-- [imm]
+unfoldable pub returned_value : Grammar (Option RawImm)
+returned_value = either (nothing (λ x. Some x) <*> imm) (nothing None)
 
--- "return" ";"
-unfoldable pub returned : Grammar Lexeme
-returned = both second (sign kinds.Return) (sign kinds.Semicolon)
+-- "return" [imm] ";"
+unfoldable pub returned : Grammar (Option RawImm)
+returned = sign kinds.Return *> returned_value <* sign kinds.Semicolon
 
 abbrev pub before_stmt : Look
-before_stmt = ((names ++ kinds.Staticinvoke ∷ []) ∷ []) ∷ []
+before_stmt = ((names ++ kinds.Nop ∷ kinds.Staticinvoke ∷ []) ∷ []) ∷ []
 
--- stmt* "return" ";"
-unfoldable pub stmts : Grammar (List RawStmt)
-stmts = plain (λ xs end. xs) before_stmt stmt returned
+abbrev pub coded : List RawStmt → Option RawImm → RawCode
+coded stmts returned = record { stmts = stmts; returned = returned }
+
+-- stmt* "return" [imm] ";"
+unfoldable pub code : Grammar RawCode
+code = plain coded before_stmt stmt returned
 
 -- decl = type name ("," name)* ";"
 abbrev pub declared_as : Lexeme → List Lexeme → RawDecl
@@ -116,19 +132,31 @@ decl = both declared_as ty (several_names <* sign kinds.Semicolon)
 abbrev pub before_decl : Look
 before_decl = (primitives ∷ []) ∷ (names ∷ names ∷ []) ∷ []
 
-abbrev pub bodied : List RawDecl → List RawStmt → RawBody
-bodied decls stmts = record { decls = decls; stmts = stmts }
+abbrev pub bodied : List RawDecl → RawCode → RawBody
+bodied decls code = record { decls = decls; code = code }
 
--- body = decl* stmt* "return" ";"
+-- body = decl* stmt* "return" [imm] ";"
 unfoldable pub body : Grammar RawBody
-body = plain bodied before_decl decl stmts
+body = plain bodied before_decl decl code
 
--- method = "public" "static" "void" name "(" ")" "{" body "}"
+-- method = "public" "static" type name "(" [types] ")" "{" body "}"
 unfoldable pub method : Grammar RawMethod
-method = nothing (λ name body. record { name = name; body = body }) <* sign kinds.Public <* sign kinds.Static <* sign kinds.Void <*> name
-    <* sign kinds.OpenParen <* sign kinds.CloseParen <* sign kinds.OpenBrace <*> body <* sign kinds.CloseBrace
+method = nothing (λ result name params body. record { result = result; name = name; params = params; body = body })
+    <* sign kinds.Public <* sign kinds.Static <*> ty <*> name <* sign kinds.OpenParen <*> params <* sign kinds.CloseParen
+    <* sign kinds.OpenBrace <*> body <* sign kinds.CloseBrace
 
--- file = "public" "class" name "extends" name "{" method "}"
+abbrev pub before_method : Look
+before_method = ((kinds.Public ∷ []) ∷ []) ∷ []
+
+-- method*
+unfoldable pub later_methods : Grammar (List RawMethod)
+later_methods = plain (λ xs end. xs) before_method method ends
+
+-- method method*
+unfoldable pub methods : Grammar (List RawMethod)
+methods = both (λ x xs. x ∷ xs) method later_methods
+
+-- file = "public" "class" name "extends" name "{" method method* "}"
 unfoldable pub file : Grammar RawClass
-file = nothing (λ name superclass method. record { name = name; superclass = superclass; method = method }) <* sign kinds.Public <* sign kinds.Class <*> name
-    <* sign kinds.Extends <*> name <* sign kinds.OpenBrace <*> method <* sign kinds.CloseBrace
+file = nothing (λ name superclass methods. record { name = name; superclass = superclass; methods = methods }) <* sign kinds.Public <* sign kinds.Class <*> name
+    <* sign kinds.Extends <*> name <* sign kinds.OpenBrace <*> methods <* sign kinds.CloseBrace

@@ -118,7 +118,11 @@ impl<'a> Cursor<'a> {
         ensures { result ≡ sees_one before_stmt self.now.left.now }
     {
         match self.left {
-            [token, ..] => token.kind.is_name() || token.kind.is(Kind::Staticinvoke),
+            [token, ..] => {
+                token.kind.is_name()
+                    || token.kind.is(Kind::Nop)
+                    || token.kind.is(Kind::Staticinvoke)
+            }
             [] => false,
         }
     }

@@ -28,6 +28,13 @@ pub fn name(alloc: Global, bytes: &[u8], token: Lexeme) -> Result<Name, AllocErr
     Ok(Name::from_vec(name))
 }
 
+/// A copy of the word.
+pub fn word(alloc: Global, word: &[u8]) -> Result<Name, AllocError>
+    ensures { IfOk result (λ n. n ≡ word.now) }
+{
+    Ok(Name::from_vec(Vec::from_slice(alloc, word)?))
+}
+
 pub fn type_of(alloc: Global, bytes: &[u8], token: Lexeme) -> Result<JType, AllocError>
     ensures { IfOk result (λ t. t ≡ type_of bytes.now token) }
 {
@@ -35,7 +42,7 @@ pub fn type_of(alloc: Global, bytes: &[u8], token: Lexeme) -> Result<JType, Allo
     Ok(JType { base, dims: 0 })
 }
 
-fn types_of(alloc: Global, bytes: &[u8], tokens: &[Lexeme]) -> Result<Vec<JType>, AllocError>
+pub fn types_of(alloc: Global, bytes: &[u8], tokens: &[Lexeme]) -> Result<Vec<JType>, AllocError>
     ensures { IfOk result (λ ts. ts.items ≡ map (type_of bytes.now) tokens.now) }
 {
     let mut types = Vec::with_capacity(alloc, tokens.len())?;

@@ -6,12 +6,14 @@ ghost use Rattle.jimple_text.specs.Grammar.{◌*>◌, times};
 ghost use Rattle.jimple_text.specs.Reading.{reading, sees};
 ghost use Rattle.jimple_text.specs.Words.{names};
 ghost use Rattle.jimple_text.specs.Gives.{Gives, GivesMore};
-ghost use Rattle.jimple_text.specs.Forms.{sign, name, ty, several_names, several_types, params, sig, imm, next_imm, args, call, rhs, assign, call_stmt, stmt, returned, stmts, decl, body, method, file};
+ghost use Rattle.jimple_text.specs.Forms.{sign, name, ty, several_names, several_types, params, sig, imm, next_imm, args, call, rhs, param, local_value, assign, nop, call_stmt, stmt, returned_value, returned, code, decl, body, method, methods, file};
 
 use crate::cursor::{Cursor, ParseStop};
 use crate::kind::Kind;
 use crate::lexeme::Lexeme;
-use crate::raw::{RawBody, RawCall, RawClass, RawDecl, RawImm, RawMethod, RawRhs, RawSig, RawStmt};
+use crate::raw::{
+    RawBody, RawCall, RawClass, RawCode, RawDecl, RawImm, RawMethod, RawRhs, RawSig, RawStmt,
+};
 use clean_base::Seq;
 use std::alloc::Global;
 
@@ -165,15 +167,47 @@ impl<'a> Cursor<'a> {
         Ok(RawRhs::Call(call))
     }
 
+    #[tactic(auto, unfolding(crate::specs::Forms::param))]
+    fn param(&mut self) -> Result<RawRhs, ParseStop>
+        ensures { Gives (λ x. x) result self.new.left.now (reading param self.old.left.now) }
+    {
+        self.take(Kind::At)?;
+        let word = self.take_name()?;
+        self.take(Kind::Colon)?;
+        let ty = self.take_type()?;
+        Ok(RawRhs::Param(word, ty))
+    }
+
+    #[tactic(auto, unfolding(crate::specs::Forms::local_value))]
+    fn local_value(&mut self, alloc: Global) -> Result<RawRhs, ParseStop>
+        ensures { Gives (λ x. x) result self.new.left.now (reading local_value self.old.left.now) }
+    {
+        if self.sees(Kind::ColonEquals) {
+            self.take(Kind::ColonEquals)?;
+            self.param()
+        } else {
+            self.take(Kind::Equals)?;
+            self.rhs(alloc)
+        }
+    }
+
     #[tactic(auto, unfolding(crate::specs::Forms::assign))]
     fn assign(&mut self, alloc: Global) -> Result<RawStmt, ParseStop>
         ensures { Gives (λ x. x) result self.new.left.now (reading assign self.old.left.now) }
     {
         let target = self.take_name()?;
-        self.take(Kind::Equals)?;
-        let value = self.rhs(alloc)?;
+        let value = self.local_value(alloc)?;
         self.take(Kind::Semicolon)?;
         Ok(RawStmt::Assign(target, value))
+    }
+
+    #[tactic(auto, unfolding(crate::specs::Forms::nop))]
+    fn nop(&mut self) -> Result<RawStmt, ParseStop>
+        ensures { Gives (λ x. x) result self.new.left.now (reading nop self.old.left.now) }
+    {
+        self.take(Kind::Nop)?;
+        self.take(Kind::Semicolon)?;
+        Ok(RawStmt::Nop)
     }
 
     #[tactic(auto, unfolding(crate::specs::Forms::call_stmt))]
@@ -185,36 +219,55 @@ impl<'a> Cursor<'a> {
         Ok(RawStmt::Call(call))
     }
 
-    #[tactic(auto, unfolding(crate::specs::Forms::stmt, crate::specs::Forms::assign))]
+    #[tactic(auto, unfolding(crate::specs::Forms::stmt, crate::specs::Forms::assign, crate::specs::Forms::nop))]
     fn stmt(&mut self, alloc: Global) -> Result<RawStmt, ParseStop>
         ensures { Gives (λ x. x) result self.new.left.now (reading stmt self.old.left.now) }
     {
         if self.sees_name() {
             self.assign(alloc)
+        } else if self.sees(Kind::Nop) {
+            self.nop()
         } else {
             self.call_stmt(alloc)
         }
     }
 
+    #[tactic(auto, unfolding(crate::specs::Forms::returned_value, crate::specs::Forms::imm))]
+    fn returned_value(&mut self) -> Result<Option<RawImm>, ParseStop>
+        ensures { Gives (λ x. x) result self.new.left.now (reading returned_value self.old.left.now) }
+    {
+        if self.sees_imm() {
+            let value = self.imm()?;
+            Ok(Some(value))
+        } else {
+            Ok(None)
+        }
+    }
+
     #[tactic(auto, unfolding(crate::specs::Forms::returned))]
-    fn returned(&mut self) -> Result<Lexeme, ParseStop>
+    fn returned(&mut self) -> Result<Option<RawImm>, ParseStop>
         ensures { Gives (λ x. x) result self.new.left.now (reading returned self.old.left.now) }
     {
         self.take(Kind::Return)?;
-        self.take(Kind::Semicolon)
+        let value = self.returned_value()?;
+        self.take(Kind::Semicolon)?;
+        Ok(value)
     }
 
-    #[tactic(auto, unfolding(crate::specs::Forms::stmts))]
-    fn stmts(&mut self, alloc: Global) -> Result<Vec<RawStmt>, ParseStop>
-        ensures { Gives (λ v. v.items) result self.new.left.now (reading stmts self.old.left.now) }
+    #[tactic(auto, unfolding(crate::specs::Forms::code))]
+    fn code(&mut self, alloc: Global) -> Result<RawCode, ParseStop>
+        ensures { Gives (λ x. x) result self.new.left.now (reading code self.old.left.now) }
     {
         let mut stmts = Vec::new(alloc);
         while self.sees_stmt() {
             let next = self.stmt(alloc)?;
             stmts.push(next)?;
         }
-        self.returned()?;
-        Ok(stmts)
+        let returned = self.returned()?;
+        Ok(RawCode {
+            stmts: Seq::from_vec(stmts),
+            returned,
+        })
     }
 
     #[tactic(auto, unfolding(crate::specs::Forms::decl))]
@@ -239,10 +292,10 @@ impl<'a> Cursor<'a> {
             let next = self.decl(alloc)?;
             decls.push(next)?;
         }
-        let stmts = self.stmts(alloc)?;
+        let code = self.code(alloc)?;
         Ok(RawBody {
             decls: Seq::from_vec(decls),
-            stmts: Seq::from_vec(stmts),
+            code,
         })
     }
 
@@ -252,14 +305,34 @@ impl<'a> Cursor<'a> {
     {
         self.take(Kind::Public)?;
         self.take(Kind::Static)?;
-        self.take(Kind::Void)?;
+        let result = self.take_type()?;
         let name = self.take_name()?;
         self.take(Kind::OpenParen)?;
+        let params = self.params(alloc)?;
         self.take(Kind::CloseParen)?;
         self.take(Kind::OpenBrace)?;
         let body = self.body(alloc)?;
         self.take(Kind::CloseBrace)?;
-        Ok(RawMethod { name, body })
+        Ok(RawMethod {
+            result,
+            name,
+            params: Seq::from_vec(params),
+            body,
+        })
+    }
+
+    #[tactic(auto, unfolding(crate::specs::Forms::methods, crate::specs::Forms::later_methods))]
+    fn methods(&mut self, alloc: Global) -> Result<Vec<RawMethod>, ParseStop>
+        ensures { Gives (λ v. v.items) result self.new.left.now (reading methods self.old.left.now) }
+    {
+        let front = self.method(alloc)?;
+        let mut methods = Vec::new(alloc);
+        methods.push(front)?;
+        while self.sees(Kind::Public) {
+            let next = self.method(alloc)?;
+            methods.push(next)?;
+        }
+        Ok(methods)
     }
 
     /// Reads a file from the front of the tokens.
@@ -273,12 +346,12 @@ impl<'a> Cursor<'a> {
         self.take(Kind::Extends)?;
         let superclass = self.take_name()?;
         self.take(Kind::OpenBrace)?;
-        let method = self.method(alloc)?;
+        let methods = self.methods(alloc)?;
         self.take(Kind::CloseBrace)?;
         Ok(RawClass {
             name,
             superclass,
-            method,
+            methods: Seq::from_vec(methods),
         })
     }
 }

@@ -3,26 +3,34 @@
 use crate::lexeme::Lexeme;
 use clean_base::Seq;
 
-/// A class with its one method.
+/// A class with its methods.
 #[derive(Debug, Drop)]
 pub struct RawClass {
     pub name: Lexeme,
     pub superclass: Lexeme,
-    pub method: RawMethod,
+    pub methods: Seq<RawMethod>,
 }
 
-/// A method without parameters or result.
+/// A method with the types of its parameters.
 #[derive(Debug, Drop)]
 pub struct RawMethod {
+    pub result: Lexeme,
     pub name: Lexeme,
+    pub params: Seq<Lexeme>,
     pub body: RawBody,
 }
 
-/// The statements end with a `return` without a value, which isn't among them.
 #[derive(Debug, Drop)]
 pub struct RawBody {
     pub decls: Seq<RawDecl>,
+    pub code: RawCode,
+}
+
+/// Statements, and what the `return` behind them gives.
+#[derive(Debug, Drop)]
+pub struct RawCode {
     pub stmts: Seq<RawStmt>,
+    pub returned: Option<RawImm>,
 }
 
 /// Locals of one type.
@@ -34,7 +42,9 @@ pub struct RawDecl {
 
 #[derive(Debug, Drop)]
 pub enum RawStmt {
+    /// A local and what it is given.
     Assign(Lexeme, RawRhs),
+    Nop,
     Call(RawCall),
 }
 
@@ -42,6 +52,8 @@ pub enum RawStmt {
 pub enum RawRhs {
     Use(RawImm),
     Call(RawCall),
+    /// A parameter: the word that names it, and its type.
+    Param(Lexeme, Lexeme),
 }
 
 #[derive(Clone, Copy, Debug)]

@@ -3,6 +3,7 @@ ghost use Rattle.std.specs.Prelude.{◌≡◌, ◌<◌, ◌≤◌, ◌^◌, List
 ghost use Rattle.jimple_lex.specs.declared.token.Token.{Token};
 ghost use Rattle.jimple_lex.specs.Lexed.{Lexed, InOrder};
 ghost use Rattle.jimple_tree.specs.declared.tree.Class.{Class};
+ghost use Rattle.jimple_tree.specs.Bodies.{IsOfBodies};
 ghost use Rattle.jimple_text.specs.Shape.{is_plain};
 ghost use Rattle.jimple_text.specs.Resolving.{Refuses};
 ghost use Rattle.jimple_text.specs.Stops.{Told};
@@ -88,6 +89,7 @@ pub fn read_classes(alloc: Global, bytes: &[u8], file: u32) -> Result<Vec<Class>
     ensures ok { IfOk result (λ cs. IsBuilt bytes.now cs.items) }
     ensures only { IfOk result (λ cs. (ds : List Class) → IsBuilt bytes.now ds → ds ≡ cs.items) }
     ensures err { IfErr result (NotBuilt file bytes.now) }
+    ensures bodies { IfOk result (λ cs. All IsOfBodies cs.items) }
 {
     match classes(alloc, bytes, file) {
         Ok(classes) => Ok(classes),

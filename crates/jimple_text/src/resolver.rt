@@ -1,27 +1,25 @@
-// Statements with their locals by number. The scope stands below; the reader of classes above.
-ghost use Rattle.std.specs.Prelude.{◌≡◌, ◌≤◌, ◌<◌, List, ℕ, length, nat_lt, Option};
-ghost use mathlib.Core.Bool.{◌||◌};
-ghost use Rattle.jimple_text.specs.Names.{text};
-ghost use Rattle.std.specs.Str.{bytes_eq};
-ghost use Rattle.jimple_text.specs.Resolving.{Finds, find_local, find_imm, find_all, find_call, find_rhs, find_stmt};
+// Statements with their locals by number. The scope stands below; the pass over bodies above.
+ghost use Rattle.std.specs.Prelude.{◌≡◌, List, ℕ, length};
+ghost use Rattle.jimple_text.specs.declared.raw.RawRhs.TheVariants as raw_sides;
+ghost use Rattle.jimple_text.specs.Resolving.{Finds, find_local, find_imm, find_all, find_call, find_assign, find_stmt, find_return, find_code};
 
 use crate::lexeme::Lexeme;
-use crate::names::{name, sig, text};
-use crate::raw::{RawCall, RawImm, RawRhs, RawStmt};
+use crate::names::{name, sig, text, type_of};
+use crate::parameter::parameter_number;
+use crate::raw::{RawCall, RawCode, RawImm, RawRhs, RawStmt};
 use crate::scope::Scope;
 use crate::stop::BuildStop;
 use clean_base::{LocalId, Seq};
-use jimple_tree::{Imm, Invoke, InvokeKind, Place, Rhs, Stmt};
+use jimple_tree::{Given, Imm, Invoke, InvokeKind, Place, Rhs, Stmt};
 use std::alloc::Global;
 
 /// The most arguments of a call.
 const MOST_ARGUMENTS: usize = 255;
 
-/// The bytes of the text, the name of the class that they give, and the locals of its method.
+/// The bytes of the text, and the locals of a method.
 #[derive(Drop)]
 pub struct Resolver<'a> {
     pub bytes: &'a [u8],
-    pub own: &'a [u8],
     pub scope: Scope<'a>,
 }
 
@@ -55,16 +53,10 @@ impl<'a> Resolver<'a> {
         Ok(imms)
     }
 
-    fn is_refused(&self, raw: &RawCall) -> bool
-        ensures { result ≡ (bytes_eq (text self.now.bytes.now raw.now.sig.class) self.now.own.now || nat_lt 255 (length raw.now.args)) }
-    {
-        text(self.bytes, raw.sig.class) == self.own || raw.args.as_slice().len() > MOST_ARGUMENTS
-    }
-
     fn call(&self, alloc: Global, raw: &RawCall) -> Result<Invoke, BuildStop>
-        ensures { Finds (λ x. x) result (find_call self.now.bytes.now self.now.own.now self.now.scope.locals.now raw.now) }
+        ensures { Finds (λ x. x) result (find_call self.now.bytes.now self.now.scope.locals.now raw.now) }
     {
-        if self.is_refused(raw) {
+        if raw.args.as_slice().len() > MOST_ARGUMENTS {
             return Err(BuildStop::NotBuilt);
         }
         let args = self.imms(alloc, raw.args.as_slice())?;
@@ -77,37 +69,82 @@ impl<'a> Resolver<'a> {
         })
     }
 
-    fn rhs(&self, alloc: Global, raw: &RawRhs) -> Result<Rhs, BuildStop>
-        ensures { Finds (λ x. x) result (find_rhs self.now.bytes.now self.now.own.now self.now.scope.locals.now raw.now) }
+    fn param(
+        &self,
+        alloc: Global,
+        local: LocalId,
+        word: Lexeme,
+        ty: Lexeme,
+    ) -> Result<Stmt, BuildStop>
+        ensures { Finds (λ x. x) result (find_assign self.now.bytes.now self.now.scope.locals.now local (raw_sides.Param word ty)) }
     {
+        let Some(number) = parameter_number(text(self.bytes, word)) else {
+            return Err(BuildStop::NotBuilt);
+        };
+        let ty = type_of(alloc, self.bytes, ty)?;
+        let what = Given::Param(number, ty);
+        Ok(Stmt::Identity { local, what })
+    }
+
+    /// The statement that gives the local what it is given.
+    fn assign(&self, alloc: Global, local: LocalId, raw: &RawRhs) -> Result<Stmt, BuildStop>
+        ensures { Finds (λ x. x) result (find_assign self.now.bytes.now self.now.scope.locals.now local raw.now) }
+    {
+        let place = Place::Local(local);
         match raw {
-            RawRhs::Use(operand) => Ok(Rhs::Use(self.imm(alloc, *operand)?)),
-            RawRhs::Call(call) => Ok(Rhs::Call(self.call(alloc, call)?)),
+            RawRhs::Use(operand) => {
+                let rhs = Rhs::Use(self.imm(alloc, *operand)?);
+                Ok(Stmt::Assign { place, rhs })
+            }
+            RawRhs::Call(call) => {
+                let rhs = Rhs::Call(self.call(alloc, call)?);
+                Ok(Stmt::Assign { place, rhs })
+            }
+            RawRhs::Param(word, ty) => self.param(alloc, local, *word, *ty),
         }
     }
 
     fn stmt(&self, alloc: Global, raw: &RawStmt) -> Result<Stmt, BuildStop>
-        ensures { Finds (λ x. x) result (find_stmt self.now.bytes.now self.now.own.now self.now.scope.locals.now raw.now) }
+        ensures { Finds (λ x. x) result (find_stmt self.now.bytes.now self.now.scope.locals.now raw.now) }
     {
         match raw {
             RawStmt::Assign(target, value) => {
-                let place = Place::Local(self.local(*target)?);
-                let rhs = self.rhs(alloc, value)?;
-                Ok(Stmt::Assign { place, rhs })
+                let local = self.local(*target)?;
+                self.assign(alloc, local, value)
             }
+            RawStmt::Nop => Ok(Stmt::Nop),
             RawStmt::Call(call) => Ok(Stmt::Call(self.call(alloc, call)?)),
         }
     }
 
     /// The statements, without the `return` behind them.
-    pub fn stmts(&self, alloc: Global, raw: &[RawStmt]) -> Result<Vec<Stmt>, BuildStop>
-        ensures { Finds (λ v. v.items) result (find_all (find_stmt self.now.bytes.now self.now.own.now self.now.scope.locals.now) raw.now) }
+    fn stmts(&self, alloc: Global, raw: &[RawStmt]) -> Result<Vec<Stmt>, BuildStop>
+        ensures { Finds (λ v. v.items) result (find_all (find_stmt self.now.bytes.now self.now.scope.locals.now) raw.now) }
     {
         let mut stmts = Vec::with_capacity(alloc, raw.len())?;
         for next in raw {
             let stmt = self.stmt(alloc, next)?;
             stmts.push(stmt)?;
         }
+        Ok(stmts)
+    }
+
+    fn returned(&self, alloc: Global, raw: Option<RawImm>) -> Result<Stmt, BuildStop>
+        ensures { Finds (λ x. x) result (find_return self.now.bytes.now self.now.scope.locals.now raw) }
+    {
+        match raw {
+            Some(operand) => Ok(Stmt::Return(Some(self.imm(alloc, operand)?))),
+            None => Ok(Stmt::Return(None)),
+        }
+    }
+
+    /// The statements, with the `return` behind them.
+    pub fn code(&self, alloc: Global, raw: &RawCode) -> Result<Vec<Stmt>, BuildStop>
+        ensures { Finds (λ v. v.items) result (find_code self.now.bytes.now self.now.scope.locals.now raw.now) }
+    {
+        let mut stmts = self.stmts(alloc, raw.stmts.as_slice())?;
+        let last = self.returned(alloc, raw.returned)?;
+        stmts.push(last)?;
         Ok(stmts)
     }
 }

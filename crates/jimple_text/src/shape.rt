@@ -32,7 +32,8 @@ fn all_blank(bytes: &[u8]) -> bool
     bytes.iter().all(|byte| is_blank(*byte))
 }
 
-fn all_digits(bytes: &[u8]) -> bool
+/// Decimal digits alone.
+pub fn all_digits(bytes: &[u8]) -> bool
     ensures { result ≡ list_all is_digit bytes.now }
 {
     bytes.iter().all(|byte| is_digit(*byte))

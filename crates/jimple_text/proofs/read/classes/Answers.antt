@@ -3,7 +3,7 @@ use Rattle.std.proofs.lemmas.Result.{err_from_is_err_and}
 use Rattle.jimple_lex.specs.declared.token.Token.{Token}
 use Rattle.jimple_tree.specs.declared.tree.Class.{Class}
 use Rattle.jimple_text.specs.Built.{IsClassOf}
-use Rattle.jimple_text.proofs.Resolved.{refuses}
+use Rattle.jimple_text.proofs.Refused.{refuses}
 use Rattle.jimple_text.proofs.read.classes.Goals as goal
 
 pub returns-in_err-class-clause-err : goal.returns-in_err-class-clause-err

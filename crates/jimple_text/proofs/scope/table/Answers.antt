@@ -8,7 +8,7 @@ use Rattle.jimple_tree.specs.declared.tree.Local.{Local}
 use Rattle.jimple_text.specs.Names.{Distinct}
 use Rattle.jimple_text.specs.Resolving.{number_of}
 use Rattle.jimple_text.proofs.Locals.{step, distinct_push, double, one_more}
-use Rattle.jimple_text.proofs.Resolved.{refuses}
+use Rattle.jimple_text.proofs.Refused.{refuses}
 use Rattle.jimple_text.proofs.scope.table.Goals as goal
 
 pub returns-in_err-add-clause-err : goal.returns-in_err-add-clause-err
