@@ -1,0 +1,18 @@
+use Rattle.std.proofs.Common.{◌≡◌, List, [], ◌∷◌, ◌++◌, length, pred}
+use Rattle.jimple_grammar.specs.declared.raw.RawType.{RawType}
+use Rattle.jimple_grammar.specs.declared.kind.Kind.TheVariants as kinds
+use Rattle.jimple_grammar.specs.Reading.{reading}
+use Rattle.jimple_grammar.specs.Grammar.{ends}
+use Rattle.jimple_grammar.specs.Forms.{next_param, later_params}
+use Rattle.jimple_grammar.proofs.Groups.{Underway}
+use Rattle.jimple_grammar.proofs.cursor.Cursor.later_params.Given as goal
+
+abbrev pub invariant-loop-self : goal.invariant-loop-self
+invariant-loop-self l = record {
+  pieces : List RawType;
+  are : l.params.items ≡ l.fn.params.items ++ pieces;
+  underway : Underway (λ xs end. xs) (((kinds.Comma ∷ []) ∷ []) ∷ []) next_param (λ n x. pred n) ends (reading later_params l.fn.self.left.now) pieces l.room l.self.left.now;
+}
+
+abbrev pub decreases-loop-self : goal.decreases-loop-self
+decreases-loop-self l = length l.self.left.now

@@ -1,0 +1,9 @@
+pub mod Kind
+pub mod Words
+pub mod Grammar
+pub mod Reading
+pub mod Gives
+pub mod Forms
+pub mod Stops
+pub mod Kinds
+pub mod Lexemes
