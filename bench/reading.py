@@ -38,13 +38,13 @@ def run(folder, text):
 
 
 def main():
-    largest = int(sys.argv[1]) if len(sys.argv) > 1 else 128
+    largest = int(sys.argv[1]) if len(sys.argv) > 1 else 80
     print("processors", os.cpu_count())
     with tempfile.TemporaryDirectory() as name:
         folder = pathlib.Path(name)
         (folder / "L").write_bytes(b"")
         for kind, head in (("tokens", b"x " + HEAD), ("whole", HEAD)):
-            size = 1
+            size = 5
             while size <= largest:
                 text = head + LINES * (size * 1_000_000 // len(LINES)) + FOOT
                 code, usage = run(folder, text)

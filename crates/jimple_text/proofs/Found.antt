@@ -15,7 +15,7 @@ use Rattle.jimple_tree.specs.declared.tree.Rhs.TheVariants as sides
 use Rattle.jimple_tree.specs.declared.tree.Place.TheVariants as places
 use Rattle.jimple_tree.specs.declared.tree.Stmt.{Stmt}
 use Rattle.jimple_tree.specs.declared.tree.Stmt.TheVariants as stmts
-use Rattle.jimple_text.specs.declared.lexeme.Lexeme.{Lexeme}
+use Rattle.jimple_grammar.specs.declared.lexeme.Lexeme.{Lexeme}
 use Rattle.jimple_text.specs.declared.raw.RawCode.{RawCode}
 use Rattle.jimple_text.specs.declared.raw.RawStmt.{RawStmt}
 use Rattle.jimple_text.specs.declared.raw.RawStmt.TheVariants as raw_stmts
@@ -26,21 +26,21 @@ use Rattle.jimple_text.specs.declared.raw.RawImm.TheVariants as raw_imms
 use Rattle.jimple_text.specs.declared.raw.RawCall.{RawCall}
 use Rattle.jimple_text.specs.Names.{text, type_of, Distinct, Names, ImmIs, sig_of, call_to, Each, CallIs, NamesParameter, AssignIs, StmtIs, ReturnIs, CodeIs, read_digits}
 use Rattle.jimple_text.specs.Resolving.{◌>?◌, number_of, in_range, is_decimal, find_parameter, find_local, find_imm, find_all, find_call, find_assign, find_stmt, find_return, find_code}
-use Rattle.jimple_text.proofs.Starts.{and_parts}
+use Rattle.std.proofs.lemmas.Bool.{and_parts}
 use Rattle.jimple_text.proofs.Locals.{same_text, number_is, number_has}
 
-some_is : {A : Type 0} (x y : A) → ◌≡◌ {A = Option A} (Some x) (Some y) → x ≡ y
+pub some_is : {A : Type 0} (x y : A) → ◌≡◌ {A = Option A} (Some x) (Some y) → x ≡ y
 some_is x y e = cc
 
-none_some : {A : Type 0} (y : A) → ◌≡◌ {A = Option A} None (Some y) → ⊥
+pub none_some : {A : Type 0} (y : A) → ◌≡◌ {A = Option A} None (Some y) → ⊥
 none_some y e = cc
 
 -- what is found behind what is found
-then_some : {A B : Type 0} (r : Option A) (f : A → Option B) (y : B) → (r >? f) ≡ Some y → (x : A) × (r ≡ Some x) × (f x ≡ Some y)
+pub then_some : {A B : Type 0} (r : Option A) (f : A → Option B) (y : B) → (r >? f) ≡ Some y → (x : A) × (r ≡ Some x) × (f x ≡ Some y)
 then_some None f y e = absurd (none_some y e)
 then_some (Some x) f y e = (x, refl, e)
 
-each_found : {A B : Type 0} (f : A → Option B) (R : A → B → Type 0) → ((x : A) (y : B) → f x ≡ Some y → R x y) → (xs : List A) (ys : List B) → find_all f xs ≡ Some ys → Each R xs ys
+pub each_found : {A B : Type 0} (f : A → Option B) (R : A → B → Type 0) → ((x : A) (y : B) → f x ≡ Some y → R x y) → (xs : List A) (ys : List B) → find_all f xs ≡ Some ys → Each R xs ys
 each_found f R h [] [] e = tt
 each_found {A} {B} f R h [] (y ∷ ys) e = let bad : ◌≡◌ {A = List B} [] (y ∷ ys) = some_is [] (y ∷ ys) e in absurd cc
 each_found {A} {B} f R h (x ∷ xs) [] e =

@@ -3,7 +3,7 @@ use Rattle.std.proofs.Common.{◌≡◌, ◌≢◌, ℕ, List, [], ◌∷◌, ma
 use Rattle.jimple_tree.specs.WellFormed.{AreDistinct, method_key}
 use Rattle.jimple_tree.specs.declared.tree.JType.{JType}
 use Rattle.jimple_tree.specs.declared.tree.Method.{Method}
-use Rattle.jimple_text.specs.declared.lexeme.Lexeme.{Lexeme}
+use Rattle.jimple_grammar.specs.declared.lexeme.Lexeme.{Lexeme}
 use Rattle.jimple_text.specs.declared.raw.RawMethod.{RawMethod}
 use Rattle.jimple_text.specs.Names.{text, type_of, Each, MethodIs}
 use Rattle.jimple_text.specs.Resolving.{texts_of}

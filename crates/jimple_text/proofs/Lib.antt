@@ -1,14 +1,3 @@
-pub mod Shrink
-pub mod Parts
-pub mod Starts
-pub mod Sure
-pub mod SureForms
-pub mod Front
-pub mod Decls
-pub mod SureFile
-pub mod Loops
-pub mod Whole
-pub mod ByLength
 pub mod Locals
 pub mod Finding
 pub mod Found
@@ -18,6 +7,7 @@ pub mod Each
 pub mod Keys
 pub mod Alike
 pub mod Resolved
+pub mod Narrowed
 pub mod Counted
 pub mod OfBodies
 pub mod Classes

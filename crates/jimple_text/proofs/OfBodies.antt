@@ -12,7 +12,7 @@ use Rattle.jimple_tree.specs.declared.tree.Stmt.{Stmt}
 use Rattle.jimple_tree.specs.declared.tree.Body.{Body}
 use Rattle.jimple_tree.specs.declared.tree.Method.{Method}
 use Rattle.jimple_tree.specs.declared.tree.Class.{Class}
-use Rattle.jimple_text.specs.declared.lexeme.Lexeme.{Lexeme}
+use Rattle.jimple_grammar.specs.declared.lexeme.Lexeme.{Lexeme}
 use Rattle.jimple_text.specs.declared.raw.RawImm.{RawImm}
 use Rattle.jimple_text.specs.declared.raw.RawImm.TheVariants as raw_imms
 use Rattle.jimple_text.specs.declared.raw.RawCall.{RawCall}
@@ -25,9 +25,8 @@ use Rattle.jimple_text.specs.declared.raw.RawMethod.{RawMethod}
 use Rattle.jimple_text.specs.declared.raw.RawClass.{RawClass}
 use Rattle.jimple_text.specs.Names.{Names, ImmIs, Each, CallIs, AssignIs, StmtIs, ReturnIs, BodyIs, MethodIs, Resolves, locals, type_of}
 use Rattle.jimple_text.specs.Built.{IsBuilt}
-use Rattle.jimple_text.specs.Lexemes.{lexemes}
 use Rattle.jimple_text.proofs.Each.{each_length}
-use Rattle.jimple_text.proofs.Counted.{IsCounted, CountedRhs, CountedStmt, CountedBody, CountedMethod, file_counted}
+use Rattle.jimple_text.proofs.Counted.{IsCounted, CountedRhs, CountedStmt, CountedBody, CountedMethod, narrow_counted}
 
 -- what holds of all that raw items may be
 each_all : {A B : Type 0} (R : A → B → Type 0) (P : B → Type 0) → ((x : A) (y : B) → R x y → P y) → (xs : List A) (ys : List B) → Each R xs ys → All P ys
@@ -117,4 +116,4 @@ class_of_bodies bytes raw v q h =
     })
 
 pub built_of_bodies : (bytes : List ℕ) (classes : List Class) → IsBuilt bytes classes → All IsOfBodies classes
-built_of_bodies bytes classes h = subst (All IsOfBodies) (sym h.one) (All-cons IsOfBodies h.class [] (class_of_bodies bytes h.spelled.0 h.class (file_counted (lexemes bytes h.tokens) h.spelled.0 h.spelled.1) h.spelled.2) (All-nil IsOfBodies))
+built_of_bodies bytes classes h = subst (All IsOfBodies) (sym h.one) (All-cons IsOfBodies h.class [] (class_of_bodies bytes h.spelled.raw h.class (narrow_counted h.spelled.whole h.spelled.raw h.spelled.small) h.spelled.resolved) (All-nil IsOfBodies))

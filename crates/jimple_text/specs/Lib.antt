@@ -1,13 +1,5 @@
-pub mod Kind
-pub mod Words
-pub mod Grammar
-pub mod Reading
-pub mod Gives
-pub mod Forms
-pub mod Stops
-pub mod Kinds
 pub mod Shape
-pub mod Lexemes
 pub mod Names
 pub mod Resolving
+pub mod Narrow
 pub mod Built

@@ -20,7 +20,7 @@ use Rattle.jimple_tree.specs.declared.tree.Stmt.TheVariants as stmts_are
 use Rattle.jimple_tree.specs.WellFormed.{AreDistinct, method_key}
 use Rattle.jimple_tree.specs.Bodies.{all_stmts}
 use Rattle.jimple_lex.specs.Bytes.{is_digit}
-use Rattle.jimple_text.specs.declared.lexeme.Lexeme.{Lexeme}
+use Rattle.jimple_grammar.specs.declared.lexeme.Lexeme.{Lexeme}
 use Rattle.jimple_text.specs.declared.raw.RawClass.{RawClass}
 use Rattle.jimple_text.specs.declared.raw.RawMethod.{RawMethod}
 use Rattle.jimple_text.specs.declared.raw.RawBody.{RawBody}
@@ -34,7 +34,7 @@ use Rattle.jimple_text.specs.declared.raw.RawImm.{RawImm}
 use Rattle.jimple_text.specs.declared.raw.RawImm.TheVariants as raw_imms
 use Rattle.jimple_text.specs.declared.raw.RawCall.{RawCall}
 use Rattle.jimple_text.specs.declared.raw.RawSig.{RawSig}
-use Rattle.jimple_text.specs.Shape.{between}
+use Rattle.jimple_grammar.specs.Lexemes.{between}
 
 -- the bytes of a token
 abbrev pub text : List ℕ → Lexeme → List ℕ

@@ -17,7 +17,7 @@ use Rattle.jimple_tree.specs.declared.tree.Rhs.TheVariants as sides
 use Rattle.jimple_tree.specs.declared.tree.Place.TheVariants as places
 use Rattle.jimple_tree.specs.declared.tree.Stmt.{Stmt}
 use Rattle.jimple_tree.specs.declared.tree.Stmt.TheVariants as stmts
-use Rattle.jimple_text.specs.declared.lexeme.Lexeme.{Lexeme}
+use Rattle.jimple_grammar.specs.declared.lexeme.Lexeme.{Lexeme}
 use Rattle.jimple_text.specs.declared.raw.RawCode.{RawCode}
 use Rattle.jimple_text.specs.declared.raw.RawMethod.{RawMethod}
 use Rattle.jimple_text.specs.declared.raw.RawStmt.{RawStmt}
@@ -27,8 +27,8 @@ use Rattle.jimple_text.specs.declared.raw.RawRhs.TheVariants as raw_sides
 use Rattle.jimple_text.specs.declared.raw.RawImm.{RawImm}
 use Rattle.jimple_text.specs.declared.raw.RawImm.TheVariants as raw_imms
 use Rattle.jimple_text.specs.declared.raw.RawCall.{RawCall}
-use Rattle.jimple_text.specs.declared.cursor.ParseStop.{ParseStop}
-use Rattle.jimple_text.specs.declared.cursor.ParseStop.TheVariants as parses
+use Rattle.jimple_grammar.specs.declared.cursor.ParseStop.{ParseStop}
+use Rattle.jimple_grammar.specs.declared.cursor.ParseStop.TheVariants as parses
 use Rattle.jimple_text.specs.declared.stop.BuildStop.{BuildStop}
 use Rattle.jimple_text.specs.declared.stop.BuildStop.TheVariants as stops
 use Rattle.jimple_text.specs.Names.{text, type_of, sig_of, call_to, read_digits}
@@ -38,7 +38,7 @@ abbrev pub Refuses : Type 0 → BuildStop → Type 0
 Refuses why stops.OutOfMemory = Unit {0}
 Refuses why stops.NotBuilt = why
 
--- a stop of the parser, as one of the whole
+-- a stop of the reader of tokens, as one of the whole
 abbrev pub as_build : ParseStop → BuildStop
 as_build parses.OutOfMemory = stops.OutOfMemory
 as_build (parses.Syntax at) = stops.NotBuilt

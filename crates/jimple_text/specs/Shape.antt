@@ -1,14 +1,11 @@
 -- Texts of the grammar built so far: which tokens, and what stands between them.
-use Rattle.std.specs.Prelude.{ℕ, ◌-◌, Bool, true, false, not, ◌&&◌, ◌==◌, List, [], ◌∷◌, take, drop}
+use Rattle.std.specs.Prelude.{ℕ, Bool, true, false, not, ◌&&◌, ◌==◌, List, [], ◌∷◌, drop}
 use Rattle.std.specs.List.{list_all, list_any}
 use Rattle.jimple_lex.specs.Bytes.{is_blank, is_digit, single_quote}
 use Rattle.jimple_lex.specs.declared.token.Token.{Token}
 use Rattle.jimple_lex.specs.declared.token.TokenKind.{TokenKind}
 use Rattle.jimple_lex.specs.declared.token.TokenKind.TheVariants as tokens
-
--- the bytes from one place to another
-abbrev pub between : List ℕ → ℕ → ℕ → List ℕ
-between bytes from to = take (to - from) (drop from bytes)
+use Rattle.jimple_grammar.specs.Lexemes.{between}
 
 -- a word without quotes, a run of digits, or a sign
 abbrev pub is_simple : TokenKind → List ℕ → Bool

@@ -6,9 +6,9 @@ ghost use Rattle.std.specs.HashMap.{get};
 ghost use Rattle.std.specs.Str.{bytes_eq};
 ghost use Rattle.jimple_text.specs.Names.{text, type_of, local_of, locals_of, locals, sig_of, Distinct};
 
-use crate::lexeme::Lexeme;
 use crate::raw::{RawDecl, RawSig};
 use clean_base::{Name, Seq};
+use jimple_grammar::lexeme::Lexeme;
 use jimple_tree::{JType, Local, Sig};
 use std::alloc::{AllocError, Global};
 

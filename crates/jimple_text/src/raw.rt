@@ -1,7 +1,7 @@
-// The tree of a text before its names are looked up: it holds tokens. Lexemes stand below; the parser, which makes it,
-// and the pass over names, which makes a class of it, above.
-use crate::lexeme::Lexeme;
+// The tree of a text of the grammar built so far, before its names are looked up: it holds tokens. Lexemes stand below;
+// `narrow`, which makes it of the tree of the whole grammar, and the pass over names, which makes a class of it, above.
 use clean_base::Seq;
+use jimple_grammar::lexeme::Lexeme;
 
 /// A class with its methods.
 #[derive(Debug, Drop)]

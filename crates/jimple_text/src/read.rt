@@ -1,4 +1,5 @@
-// The reader of classes: tokens, then the raw tree, then names. The program stands above.
+// The reader of classes: tokens, then the tree of the whole grammar, then the small one, then names. The program stands
+// above.
 ghost use Rattle.std.specs.Prelude.{◌≡◌, ◌<◌, ◌≤◌, ◌^◌, List, true, All, IfOk, IfErr, length};
 ghost use Rattle.jimple_lex.specs.declared.token.Token.{Token};
 ghost use Rattle.jimple_lex.specs.Lexed.{Lexed, InOrder};
@@ -6,33 +7,17 @@ ghost use Rattle.jimple_tree.specs.declared.tree.Class.{Class};
 ghost use Rattle.jimple_tree.specs.Bodies.{IsOfBodies};
 ghost use Rattle.jimple_text.specs.Shape.{is_plain};
 ghost use Rattle.jimple_text.specs.Resolving.{Refuses};
-ghost use Rattle.jimple_text.specs.Stops.{Told};
-ghost use Rattle.jimple_text.specs.Forms.{file};
 ghost use Rattle.jimple_text.specs.Built.{IsClassOf, IsBuilt, NotBuilt};
 
-use crate::cursor::{Cursor, ParseStop};
-use crate::lexeme::Lexeme;
-use crate::raw::RawClass;
+use crate::narrow::narrow;
 use crate::resolve::resolve;
-use crate::shape::{is_plain, lexemes};
+use crate::shape::is_plain;
 use crate::stop::BuildStop;
 use clean_base::{InputFault, Stop};
+use jimple_grammar::read_tokens;
 use jimple_lex::{Token, lex};
 use jimple_tree::Class;
 use std::alloc::Global;
-
-/// Reads a file that takes all the tokens.
-fn read_file(alloc: Global, tokens: &[Lexeme]) -> Result<RawClass, ParseStop>
-    ensures { Told file tokens.now result }
-{
-    let mut cursor = Cursor::new(tokens);
-    let found = cursor.file(alloc)?;
-    if cursor.is_at_end() {
-        Ok(found)
-    } else {
-        Err(ParseStop::Syntax(cursor.place()))
-    }
-}
 
 /// The class of these tokens of the text.
 fn build(alloc: Global, bytes: &[u8], tokens: &[Token]) -> Result<Class, BuildStop>
@@ -41,8 +26,8 @@ fn build(alloc: Global, bytes: &[u8], tokens: &[Token]) -> Result<Class, BuildSt
     ensures only { IfOk result (λ c. (d : Class) → IsClassOf bytes.now tokens.now d → d ≡ c) }
     ensures err { IfErr result (Refuses ((d : Class) → IsClassOf bytes.now tokens.now d → ⊥)) }
 {
-    let lexemes = lexemes(alloc, bytes, tokens)?;
-    let raw = read_file(alloc, lexemes.as_slice())?;
+    let whole = read_tokens(alloc, bytes, tokens)?;
+    let raw = narrow(alloc, whole.as_slice())?;
     resolve(alloc, bytes, &raw)
 }
 

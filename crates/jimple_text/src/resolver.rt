@@ -3,13 +3,13 @@ ghost use Rattle.std.specs.Prelude.{◌≡◌, List, ℕ, length};
 ghost use Rattle.jimple_text.specs.declared.raw.RawRhs.TheVariants as raw_sides;
 ghost use Rattle.jimple_text.specs.Resolving.{Finds, find_local, find_imm, find_all, find_call, find_assign, find_stmt, find_return, find_code};
 
-use crate::lexeme::Lexeme;
 use crate::names::{name, sig, text, type_of};
 use crate::parameter::parameter_number;
 use crate::raw::{RawCall, RawCode, RawImm, RawRhs, RawStmt};
 use crate::scope::Scope;
 use crate::stop::BuildStop;
 use clean_base::{LocalId, Seq};
+use jimple_grammar::lexeme::Lexeme;
 use jimple_tree::{Given, Imm, Invoke, InvokeKind, Place, Rhs, Stmt};
 use std::alloc::Global;
 

@@ -1,18 +1,12 @@
-// Which tokens a text of the grammar built so far has, and their lexemes. Kinds by text stand below; the reader of
-// classes above.
-ghost use Rattle.std.specs.Prelude.{◌≡◌, ◌==◌, ◌<◌, ◌≤◌, ◌^◌, ◌&&◌, All, IfOk, length};
+// Which tokens a text of the grammar built so far has. Tokens stand below; the reader of classes above.
+ghost use Rattle.std.specs.Prelude.{◌≡◌, ◌==◌, ◌<◌, ◌≤◌, ◌&&◌, All, length};
 ghost use Rattle.std.specs.List.{list_all, list_any};
 ghost use Rattle.jimple_lex.specs.Bytes.{is_blank, is_digit, single_quote};
 ghost use Rattle.jimple_lex.specs.Lexed.{InOrder};
-ghost use Rattle.jimple_text.specs.Shape.{between, is_simple, is_plain};
-ghost use Rattle.jimple_text.specs.Lexemes.{lexeme, lexemes};
-ghost use Rattle.jimple_text.specs.Kinds.{kind_of};
+ghost use Rattle.jimple_grammar.specs.Lexemes.{between};
+ghost use Rattle.jimple_text.specs.Shape.{is_simple, is_plain};
 
-use crate::kind::Kind;
-use crate::kinds::{keyword, sign, word};
-use crate::lexeme::Lexeme;
 use jimple_lex::{Token, TokenKind};
-use std::alloc::{AllocError, Global};
 
 fn is_blank(byte: u8) -> bool
     ensures { result ≡ is_blank byte }
@@ -54,42 +48,6 @@ fn is_simple(kind: TokenKind, text: &[u8]) -> bool
         TokenKind::Keyword | TokenKind::Sign => true,
         TokenKind::Text => false,
     }
-}
-
-fn kind_of(kind: TokenKind, text: &[u8]) -> Kind
-    ensures { result ≡ kind_of kind text.now }
-{
-    match kind {
-        TokenKind::Word => word(text),
-        TokenKind::Keyword => keyword(text),
-        TokenKind::Number => Kind::Number,
-        TokenKind::Text => Kind::Text,
-        TokenKind::Sign => sign(text),
-    }
-}
-
-fn lexeme(bytes: &[u8], token: Token) -> Lexeme
-    requires { (token.from < token.to) × (token.to ≤ length bytes.now) × (length bytes.now < 2 ^ 32) }
-    ensures { result ≡ lexeme bytes.now token }
-{
-    let text = &bytes[token.from as usize..token.to as usize];
-    Lexeme {
-        kind: kind_of(token.kind, text),
-        from: token.from as u32,
-        to: token.to as u32,
-    }
-}
-
-/// The tokens as the grammar sees them.
-pub fn lexemes(alloc: Global, bytes: &[u8], tokens: &[Token]) -> Result<Vec<Lexeme>, AllocError>
-    requires { All (λ t. (t.from < t.to) × (t.to ≤ length bytes.now)) tokens.now × (length bytes.now < 2 ^ 32) }
-    ensures { IfOk result (λ ls. ls.items ≡ lexemes bytes.now tokens.now) }
-{
-    let mut lexemes = Vec::with_capacity(alloc, tokens.len())?;
-    for token in tokens {
-        lexemes.push(lexeme(bytes, *token))?;
-    }
-    Ok(lexemes)
 }
 
 /// The token, and what stands before it from there on, are of the grammar built so far.

@@ -1,5 +1,5 @@
-// Why no class is built of a text. The parser stands below; what makes classes above.
-use crate::cursor::ParseStop;
+// Why no class is built of a text. The reader of tokens stands below; what makes classes above.
+use jimple_grammar::ParseStop;
 use std::alloc::{AllocError, AllocFailed};
 
 /// Why no class is built.
