@@ -15,12 +15,41 @@ pub enum InputFault {
     /// A string, a quoted name or a comment begins there and doesn't end.
     #[error("text not ended at {at}")]
     OpenText { file: u32, at: u64 },
+    /// The first token that can't continue the grammar, or the file's length.
+    #[error("syntax at {at}")]
+    Syntax { file: u32, at: u64 },
+    /// A word stands there in its place that isn't supported.
+    #[error("not supported at {at}")]
+    Unsupported { file: u32, at: u64, form: Form },
+    /// One local or parameter too many stands there, or the word of a parameter whose number is too high.
+    #[error("too many names at {at}")]
+    TooMany { file: u32, at: u64 },
+    /// The second local, label, field or method of that name stands there.
+    #[error("name given twice at {at}")]
+    DoubleName { file: u32, at: u64 },
+    /// A local that isn't declared.
+    #[error("unknown local at {at}")]
+    UnknownLocal { file: u32, at: u64 },
+    /// A label that doesn't stand in the body.
+    #[error("unknown label at {at}")]
+    UnknownLabel { file: u32, at: u64 },
     /// The entry signature names no method with a body.
     #[error("entry method not found")]
     EntryMissing,
     /// The file has a form that isn't built yet.
     #[error("form not built yet")]
     NotYet { file: u32 },
+}
+
+/// A form that no flow rule covers. Its word is refused.
+#[derive(Clone, Copy, Debug, PartialEq, Eq)]
+pub enum Form {
+    /// `dynamicinvoke`
+    Dynamic,
+    Ret,
+    Breakpoint,
+    /// `methodhandle` or `methodtype`
+    MethodConst,
 }
 
 /// Why a call stops.

@@ -16,7 +16,7 @@ pub mod seq;
 mod tests;
 
 pub use device::{Failed, Shelf, Sink};
-pub use fault::{InputFault, Stop};
+pub use fault::{Form, InputFault, Stop};
 pub use fields::Fields;
 pub use ids::{ClassId, FieldId, LocalId, MethodId, StmtId};
 pub use memory::{MemFile, MemShelf, MemSink};

@@ -1,7 +1,9 @@
 -- How calls end, and what they write to the standard error (docs/COMMANDS.md, "Statuses" and "Lines on the standard error").
 use Rattle.std.specs.Prelude.{ℕ, zero, suc, ◌-◌, List, [], ◌++◌, codes, decimal}
+use Rattle.clean_base.specs.declared.fault.Form.{Form}
+use Rattle.clean_base.specs.declared.fault.Form.TheVariants.{Dynamic, Ret, Breakpoint, MethodConst}
 use Rattle.clean_base.specs.declared.fault.InputFault.{InputFault}
-use Rattle.clean_base.specs.declared.fault.InputFault.TheVariants.{TooLong, BadByte, OpenText, EntryMissing, NotYet}
+use Rattle.clean_base.specs.declared.fault.InputFault.TheVariants.{TooLong, BadByte, OpenText, Syntax, Unsupported, TooMany, DoubleName, UnknownLocal, UnknownLabel, EntryMissing, NotYet}
 use Rattle.clean_top.specs.Words.{word}
 use Rattle.clean_top.specs.declared.status.Status.{Status}
 use Rattle.clean_top.specs.declared.status.Status.TheVariants.{Clean, Leaks, Usage, Input, EdgeLimit, ReadFault, WriteFault, OutOfMemory}
@@ -25,11 +27,24 @@ file_word words (suc n) = word words 4
 abbrev pub place_text : List ℕ → List ℕ → ℕ → List ℕ
 place_text name wrong at = name ++ codes ": " ++ wrong ++ decimal at
 
+-- the word of a form that isn't supported
+abbrev pub form_word : Form → List ℕ
+form_word Dynamic = codes "dynamicinvoke"
+form_word Ret = codes "ret"
+form_word Breakpoint = codes "breakpoint"
+form_word MethodConst = codes "methodhandle"
+
 -- what is said of a fault of the input
 abbrev pub fault_text : List (List ℕ) → InputFault → List ℕ
 fault_text words (TooLong file at) = place_text (file_word words file) (codes "longer than ") at ++ codes " bytes"
 fault_text words (BadByte file at) = place_text (file_word words file) (codes "byte not allowed at ") at
 fault_text words (OpenText file at) = place_text (file_word words file) (codes "text not ended at ") at
+fault_text words (Syntax file at) = place_text (file_word words file) (codes "syntax at ") at
+fault_text words (Unsupported file at form) = place_text (file_word words file) (form_word form ++ codes " not supported at ") at
+fault_text words (TooMany file at) = place_text (file_word words file) (codes "too many names at ") at
+fault_text words (DoubleName file at) = place_text (file_word words file) (codes "name given twice at ") at
+fault_text words (UnknownLocal file at) = place_text (file_word words file) (codes "unknown local at ") at
+fault_text words (UnknownLabel file at) = place_text (file_word words file) (codes "unknown label at ") at
 fault_text words EntryMissing = codes "entry method not found"
 fault_text words (NotYet file) = file_word words file ++ codes ": form not built yet"
 

@@ -1,11 +1,11 @@
 // The line on the standard error that says why a call refused.
 ghost use Rattle.std.specs.Prelude.{◌≡◌, ◌-◌, ◌++◌, OnOk, IfOk, codes, decimal};
 ghost use Rattle.clean_top.specs.Answer.{Complains, OrMemory, Takes};
-ghost use Rattle.clean_top.specs.Status.{fault_text, file_word, place_text, line_text, error_text};
+ghost use Rattle.clean_top.specs.Status.{fault_text, file_word, form_word, place_text, line_text, error_text};
 
 use crate::status::Status;
 use arrayvec::ArrayString;
-use clean_base::{InputFault, Sink, Word, put_all};
+use clean_base::{Form, InputFault, Sink, Word, put_all};
 use itoa::Buffer;
 use std::alloc::{AllocError, Global};
 
@@ -31,6 +31,18 @@ fn write_place(line: &mut Vec<u8>, name: &str, wrong: &[u8], at: u64) -> Result<
     line.extend_from_slice(buffer.format(at).as_bytes())
 }
 
+// What is said of a word that isn't supported, up to its place.
+fn refusal(form: Form) -> &'static [u8]
+    ensures { result.now ≡ form_word form ++ codes " not supported at " }
+{
+    match form {
+        Form::Dynamic => b"dynamicinvoke not supported at ",
+        Form::Ret => b"ret not supported at ",
+        Form::Breakpoint => b"breakpoint not supported at ",
+        Form::MethodConst => b"methodhandle not supported at ",
+    }
+}
+
 fn write_fault(line: &mut Vec<u8>, words: &[Word], fault: &InputFault) -> Result<(), AllocError>
     ensures { OnOk result (line.new.items ≡ line.old.items ++ fault_text words.now fault.now) }
 {
@@ -44,6 +56,24 @@ fn write_fault(line: &mut Vec<u8>, words: &[Word], fault: &InputFault) -> Result
         }
         InputFault::OpenText { file, at } => {
             write_place(line, file_of(words, *file), b"text not ended at ", *at)
+        }
+        InputFault::Syntax { file, at } => {
+            write_place(line, file_of(words, *file), b"syntax at ", *at)
+        }
+        InputFault::Unsupported { file, at, form } => {
+            write_place(line, file_of(words, *file), refusal(*form), *at)
+        }
+        InputFault::TooMany { file, at } => {
+            write_place(line, file_of(words, *file), b"too many names at ", *at)
+        }
+        InputFault::DoubleName { file, at } => {
+            write_place(line, file_of(words, *file), b"name given twice at ", *at)
+        }
+        InputFault::UnknownLocal { file, at } => {
+            write_place(line, file_of(words, *file), b"unknown local at ", *at)
+        }
+        InputFault::UnknownLabel { file, at } => {
+            write_place(line, file_of(words, *file), b"unknown label at ", *at)
         }
         InputFault::EntryMissing => line.extend_from_slice(b"entry method not found"),
         InputFault::NotYet { file } => {
