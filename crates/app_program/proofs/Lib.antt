@@ -5,3 +5,6 @@ pub mod Seen
 pub mod Numbers
 pub mod Whole
 pub mod Pairs
+pub mod Places
+pub mod Lists
+pub mod Same

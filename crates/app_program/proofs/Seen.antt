@@ -8,6 +8,7 @@ use Rattle.jimple_tree.specs.declared.tree.Given.TheVariants as given
 use Rattle.jimple_tree.specs.declared.tree.Imm.TheVariants as imms
 use Rattle.jimple_tree.specs.declared.tree.Invoke.{Invoke}
 use Rattle.jimple_tree.specs.declared.tree.Place.TheVariants as places
+use Rattle.jimple_tree.specs.declared.tree.Rhs.{Rhs}
 use Rattle.jimple_tree.specs.declared.tree.Rhs.TheVariants as rhss
 use Rattle.jimple_tree.specs.declared.tree.Stmt.{Stmt}
 use Rattle.jimple_tree.specs.declared.tree.Stmt.TheVariants as stmts
@@ -16,7 +17,7 @@ use Rattle.source_sink.specs.declared.line.Line.{Line}
 use Rattle.taint_problem.specs.declared.code.View.{View}
 use Rattle.taint_problem.specs.declared.code.View.TheVariants.{Call}
 use Rattle.app_program.specs.Calls.{IsMethod, IsKind}
-use Rattle.app_program.specs.Views.{local_of, IsCall, IsView, AreViews}
+use Rattle.app_program.specs.Views.{local_of, IsCall, IsAssignment, IsView, AreViews}
 
 -- two tests of one fact
 same_test : (a b : Bool) (P : Type 0) → (IsTrue a ↔ P) → (IsTrue b ↔ P) → b ≡ a
@@ -96,12 +97,22 @@ module _ (class : Class) (lines : List Line) where
       let call : b.0 ≡ a.0 = λ i. record { result = result i; args = args i; source = source i; sink = sink i; target = target i } in
       b.2 ∙ ap Call call ∙ sym a.2
 
+  assignment_once : (to : LocalId) (rhs : Rhs) (v w : View) → IsAssignment class lines to rhs v → IsAssignment class lines to rhs w → w ≡ v
+  assignment_once to (rhss.Call invoke) v w a b = call_once (Some to) invoke v w a b
+  assignment_once to (rhss.Use (imms.Local from)) v w a b = b ∙ sym a
+  assignment_once to (rhss.Use (imms.Literal text)) v w a b = b ∙ sym a
+  assignment_once to (rhss.Cast type (imms.Local from)) v w a b = b ∙ sym a
+  assignment_once to (rhss.Cast type (imms.Literal text)) v w a b = b ∙ sym a
+  assignment_once to (rhss.Neg value) v w a b = b ∙ sym a
+  assignment_once to (rhss.Binary op left right) v w a b = b ∙ sym a
+  assignment_once to _ v w a b = b ∙ sym a
+
   view_once : (s : Stmt) (v w : View) → IsView class lines s v → IsView class lines s w → w ≡ v
   view_once (stmts.Identity to (given.Param n type)) v w a b = b ∙ sym a
-  view_once (stmts.Assign (places.Local to) (rhss.Call invoke)) v w a b = call_once (Some to) invoke v w a b
+  view_once (stmts.Identity to (given.This type)) v w a b = b ∙ sym a
+  view_once (stmts.Identity to given.Caught) v w a b = b ∙ sym a
+  view_once (stmts.Assign (places.Local to) rhs) v w a b = assignment_once to rhs v w a b
   view_once (stmts.Call invoke) v w a b = call_once None invoke v w a b
-  view_once (stmts.Assign (places.Local to) (rhss.Use (imms.Local from))) v w a b = b ∙ sym a
-  view_once (stmts.Assign (places.Local to) (rhss.Use (imms.Literal text))) v w a b = b ∙ sym a
   view_once (stmts.Return value) v w a b = b ∙ sym a
   view_once _ v w a b = b ∙ sym a
 

@@ -1,13 +1,13 @@
 -- A program of a class is whole, and there is one.
-use Rattle.std.proofs.Common.{◌≡◌, ℕ, suc, ◌+◌, ◌<◌, ◌≤◌, List, [], ◌∷◌, length, get_or, Contains, All, Option, Some, None, refl, sym, ap, ◌∙◌, subst, inl, inr, arith}
+use Rattle.std.proofs.Common.{◌≡◌, ℕ, suc, ◌+◌, ◌<◌, ◌≤◌, List, [], ◌∷◌, length, get_or, Contains, All, is_some, true, true≢false, Option, Some, None, refl, sym, ap, ◌∙◌, subst, inl, inr, arith}
 use Rattle.std.proofs.lemmas.List.{length-map}
-use Rattle.std.proofs.lemmas.List.Elements.{All-contains, Contains-append_cases}
+use Rattle.std.proofs.lemmas.List.Elements.{All-contains, All-filter, Contains-append_cases, filter_passes}
 use Rattle.clean_base.specs.declared.ids.LocalId.{LocalId}
 use Rattle.clean_base.specs.declared.ids.MethodId.{MethodId}
 use Rattle.clean_base.specs.declared.ids.StmtId.{StmtId}
 use Rattle.ifds_model.specs.Count.{cons_cases}
 use Rattle.ifds_model.specs.State.{At}
-use Rattle.jimple_tree.specs.Bodies.{HasBody, IsOfBodies, stmts_of, body_stmts, all_stmts}
+use Rattle.jimple_tree.specs.Bodies.{IsWithin, bodied, stmts_of, body_stmts, all_stmts}
 use Rattle.jimple_tree.specs.WellFormed.{StmtFits, InvokeFits, OptionalBodyFits, MethodFits}
 use Rattle.jimple_tree.specs.declared.tree.Body.{Body}
 use Rattle.jimple_tree.specs.declared.tree.Class.{Class}
@@ -16,6 +16,7 @@ use Rattle.jimple_tree.specs.declared.tree.Imm.TheVariants as imms
 use Rattle.jimple_tree.specs.declared.tree.Invoke.{Invoke}
 use Rattle.jimple_tree.specs.declared.tree.Method.{Method}
 use Rattle.jimple_tree.specs.declared.tree.Place.TheVariants as places
+use Rattle.jimple_tree.specs.declared.tree.Rhs.{Rhs}
 use Rattle.jimple_tree.specs.declared.tree.Rhs.TheVariants as rhss
 use Rattle.jimple_tree.specs.declared.tree.Sig.{Sig}
 use Rattle.jimple_tree.specs.declared.tree.Stmt.{Stmt}
@@ -24,13 +25,14 @@ use Rattle.source_sink.specs.declared.line.Line.{Line}
 use Rattle.taint_problem.specs.Code.{IsWhole}
 use Rattle.taint_problem.specs.declared.code.CallView.{CallView}
 use Rattle.taint_problem.specs.declared.code.View.{View}
-use Rattle.taint_problem.specs.declared.code.View.TheVariants.{Copy, Kill, Call, Return, Other}
+use Rattle.taint_problem.specs.declared.code.View.TheVariants.{Copy, Kill, Combine, Call, Return, Other}
 use Rattle.app_program.specs.Calls.{IsMethod, IsOpen}
 use Rattle.app_program.specs.Program.{IsProgram, owners_from}
-use Rattle.app_program.specs.Views.{local_of, IsCallView, IsCall, IsView, AreViews}
+use Rattle.app_program.specs.Views.{local_of, IsCallView, IsCall, IsAssignment, IsView, AreViews}
 use Rattle.app_program.specs.declared.program.Program.{Program}
-use Rattle.app_program.proofs.Named.{one_method}
-use Rattle.app_program.proofs.Numbers.{firsts_length, owners_length, owners_below, starts_own}
+use Rattle.app_program.proofs.Named.{one_method, distinct_bodied}
+use Rattle.app_program.proofs.Numbers.{firsts_length, owners_length, owners_below, starts_own, all_bodied, nexts_inside}
+use Rattle.app_program.proofs.Same.{nexts_once}
 use Rattle.app_program.proofs.Seen.{AreViews-length, views_once}
 
 -- a statement of all is one of a method
@@ -47,28 +49,28 @@ body_fits None fits s (k, below, is) = absurd (omega (arith, below))
 body_fits (Some b) fits s has = (b, All-contains (StmtFits b) b.stmts s fits.stmts has)
 
 -- each statement fits its body
-stmt_fits : (class : Class) → IsOfBodies class → (s : Stmt) → Contains (all_stmts class.methods) s → (b : Body) × StmtFits b s
+stmt_fits : (class : Class) → IsWithin class → (s : Stmt) → Contains (all_stmts class.methods) s → (b : Body) × StmtFits b s
 stmt_fits class is s has =
     let h = stmt_of class.methods s has in
     body_fits h.0.body (All-contains MethodFits class.methods h.0 is.well_formed.each_method h.1).body s h.2
 
--- each method has a statement
-body_has : (body : Option Body) → OptionalBodyFits body → (b : Body) → body ≡ Some b → 0 < length (body_stmts body)
-body_has None fits b e = absurd (none_some b e) where
-  none_some : (b : Body) → None ≡ Some b → ⊥
-  none_some b e = cc
-body_has (Some c) fits b e = fits.has_statement
+-- each method with a body has a statement
+body_has : (body : Option Body) → OptionalBodyFits body → is_some body ≡ true → 0 < length (body_stmts body)
+body_has None fits e = absurd (true≢false (sym e))
+body_has (Some b) fits e = fits.has_statement
 
-has_statements : (class : Class) → IsOfBodies class → All (λ (m : Method). 0 < length (stmts_of m)) class.methods
+bodied_fit : (class : Class) → IsWithin class → All MethodFits (bodied class.methods)
+bodied_fit class is = All-filter (λ (m : Method). is_some m.body) MethodFits class.methods is.well_formed.each_method
+
+has_statements : (class : Class) → IsWithin class → All (λ (m : Method). 0 < length (stmts_of m)) (bodied class.methods)
 has_statements class is k d below =
-    let m = get_or class.methods k d in
-    let has : HasBody m = is.bodies k d below in
-    body_has m.body (is.well_formed.each_method k d below).body has.0 has.1
+    let m = get_or (bodied class.methods) k d in
+    body_has m.body (bodied_fit class is k d below).body (filter_passes (λ (m : Method). is_some m.body) class.methods k d below)
 
 -- a signature that names a method of the class has few parameters
-few_params : (class : Class) → IsOfBodies class → (sig : Sig) (n : MethodId) → IsMethod class sig n → length sig.params ≤ 255
+few_params : (class : Class) → IsWithin class → (sig : Sig) (n : MethodId) → IsMethod class sig n → length sig.params ≤ 255
 few_params class is sig n (m, at, same) =
-    let fits = All-contains MethodFits class.methods m is.well_formed.each_method (n.0, at.0, at.1) in
+    let fits = All-contains MethodFits (bodied class.methods) m (bodied_fit class is) (n.0, at.0, at.1) in
     let e : sig.params ≡ m.params = ap (λ (s : Sig). s.params) same in
     subst (λ (ps : List _). length ps ≤ 255) (sym e) fits.params
 
@@ -104,18 +106,31 @@ module _ (class : Class) (lines : List Line) where
   no_other : (call : CallView) → Call call ≡ Other → ⊥
   no_other call e = cc
 
+  no_combine : (call : CallView) (to : _) (left : _) (right : _) → Call call ≡ Combine to left right → ⊥
+  no_combine call to left right e = cc
+
+  assigned_call : (to : LocalId) (rhs : Rhs) (call : CallView) → IsAssignment class lines to rhs (Call call) → Calls (stmts.Assign (places.Local to) rhs) call
+  assigned_call to (rhss.Call invoke) call is = (Some to, invoke, one_call (Some to) invoke call is, λ b fits. fits.1)
+  assigned_call to (rhss.Use (imms.Local from)) call is = absurd (no_copy call _ _ is)
+  assigned_call to (rhss.Use (imms.Literal text)) call is = absurd (no_kill call _ is)
+  assigned_call to (rhss.Cast type (imms.Local from)) call is = absurd (no_copy call _ _ is)
+  assigned_call to (rhss.Cast type (imms.Literal text)) call is = absurd (no_kill call _ is)
+  assigned_call to (rhss.Neg value) call is = absurd (no_combine call _ _ _ is)
+  assigned_call to (rhss.Binary op left right) call is = absurd (no_combine call _ _ _ is)
+  assigned_call to _ call is = absurd (no_kill call _ is)
+
   calls_of : (s : Stmt) (call : CallView) → IsView class lines s (Call call) → Calls s call
-  calls_of (stmts.Assign (places.Local to) (rhss.Call invoke)) call is = (Some to, invoke, one_call (Some to) invoke call is, λ b fits. fits.1)
+  calls_of (stmts.Assign (places.Local to) rhs) call is = assigned_call to rhs call is
   calls_of (stmts.Call invoke) call is = (None, invoke, one_call None invoke call is, λ b fits. fits)
   calls_of (stmts.Identity to (given.Param n type)) call is = absurd (no_copy call _ _ is)
-  calls_of (stmts.Assign (places.Local to) (rhss.Use (imms.Local from))) call is = absurd (no_copy call _ _ is)
-  calls_of (stmts.Assign (places.Local to) (rhss.Use (imms.Literal text))) call is = absurd (no_kill call _ is)
+  calls_of (stmts.Identity to (given.This type)) call is = absurd (no_kill call _ is)
+  calls_of (stmts.Identity to given.Caught) call is = absurd (no_kill call _ is)
   calls_of (stmts.Return value) call is = absurd (no_return call _ is)
   calls_of _ call is = absurd (no_other call is)
 
   -- an open call names a method, and has few arguments
-  open_call : IsOfBodies class → (views : List View) → AreViews class lines (all_stmts class.methods) views → (call : CallView) (m : MethodId) → Contains views (Call call) → call.target ≡ Some m
-      → (m.0 < length class.methods) × (length call.args ≤ 256)
+  open_call : IsWithin class → (views : List View) → AreViews class lines (all_stmts class.methods) views → (call : CallView) (m : MethodId) → Contains views (Call call) → call.target ≡ Some m
+      → (m.0 < length (bodied class.methods)) × (length call.args ≤ 256)
   open_call is views are call m has target =
       let seen = seen_of (all_stmts class.methods) views are (Call call) has in
       let h = calls_of seen.0 call seen.2 in
@@ -129,37 +144,47 @@ module _ (class : Class) (lines : List Line) where
 
   pub root_below : (entry : Sig) (p : Program) → IsProgram class lines entry p → p.root.0 < length p.code.firsts
   root_below entry p is =
-      let count : length p.code.firsts ≡ length class.methods = ap (λ (ss : List StmtId). length ss) is.firsts ∙ firsts_length 0 class.methods in
+      let count : length p.code.firsts ≡ length (bodied class.methods) = ap (λ (ss : List StmtId). length ss) is.firsts ∙ firsts_length 0 (bodied class.methods) in
       let below = is.root.1.0 in
       omega (arith, count, below)
 
-  pub program_whole : (entry : Sig) (p : Program) → IsOfBodies class → IsProgram class lines entry p → IsWhole p.code
+  pub program_whole : (entry : Sig) (p : Program) → IsWithin class → IsProgram class lines entry p → IsWhole p.code
   program_whole entry p of is = record {
     some_method = let below = root_below entry p is in omega (arith, below);
     few_methods = let few = of.methods in omega (arith, count, few);
     few_statements = let few = of.statements in omega (arith, seen, few);
-    owned = let e = ap (λ (ms : List MethodId). length ms) is.owners ∙ owners_length 0 class.methods in omega (arith, e, seen);
-    owners = λ m has. let below = owners_below 0 class.methods m (subst (λ (ms : List MethodId). Contains ms m) is.owners has) in omega (arith, count, below);
+    owned = let e = ap (λ (ms : List MethodId). length ms) is.owners ∙ owners_length 0 (bodied class.methods) ∙ ap (λ (ss : List Stmt). length ss) (all_bodied class.methods) in omega (arith, e, seen);
+    owners = λ m has. let below = owners_below 0 (bodied class.methods) m (subst (λ (ms : List MethodId). Contains ms m) is.owners has) in omega (arith, count, below);
     starts = λ m s at.
-        let own = starts_own 0 0 class.methods (has_statements class of) m.0 s (subst (λ (ss : List StmtId). At ss m.0 s) is.firsts at) in
+        let own = starts_own 0 0 (bodied class.methods) (has_statements class of) m.0 s (subst (λ (ss : List StmtId). At ss m.0 s) is.firsts at) in
         let place : own.0 ≡ s.0 = let e = own.1 in omega (arith, e) in
         let number : 0 + m.0 ≡ m.0 = omega arith in
         subst (λ (ms : List MethodId). At ms s.0 m) (sym is.owners)
-        (subst (λ (j : ℕ). At (owners_from 0 class.methods) j m) place
-        (subst (λ (n : ℕ). At (owners_from 0 class.methods) own.0 (record { 0 = n })) number own.2));
+        (subst (λ (j : ℕ). At (owners_from 0 (bodied class.methods)) j m) place
+        (subst (λ (n : ℕ). At (owners_from 0 (bodied class.methods)) own.0 (record { 0 = n })) number own.2));
+    inside = λ s t follows.
+        let found = nexts_inside 0 0 class.methods p.code.nexts of.well_formed.each_method is.nexts s.0 follows.0 t follows.1 follows.2 in
+        let at_t = found.2 in
+        let e = at_t.1 in
+        let place : at_t.0 ≡ t.0 = omega (arith, e) in (
+          found.0,
+          subst (λ (ms : List MethodId). At ms s.0 found.0) (sym is.owners) found.1,
+          subst (λ (ms : List MethodId). At ms t.0 found.0) (sym is.owners) (subst (λ (k : ℕ). At (owners_from 0 (bodied class.methods)) k found.0) place at_t.2),
+        );
     targets = λ call m has target. let below = (open_call of p.code.views is.views call m has target).0 in omega (arith, count, below);
     args = λ call m has target. (open_call of p.code.views is.views call m has target).1;
   } where
-    count : length p.code.firsts ≡ length class.methods
-    count = ap (λ (ss : List StmtId). length ss) is.firsts ∙ firsts_length 0 class.methods
+    count : length p.code.firsts ≡ length (bodied class.methods)
+    count = ap (λ (ss : List StmtId). length ss) is.firsts ∙ firsts_length 0 (bodied class.methods)
 
     seen : length p.code.views ≡ length (all_stmts class.methods)
     seen = AreViews-length class lines (all_stmts class.methods) p.code.views is.views
 
-  pub program_once : (entry : Sig) (p q : Program) → IsOfBodies class → IsProgram class lines entry p → IsProgram class lines entry q → q ≡ p
+  pub program_once : (entry : Sig) (p q : Program) → IsWithin class → IsProgram class lines entry p → IsProgram class lines entry q → q ≡ p
   program_once entry p q of a b =
       let views = views_once class lines (all_stmts class.methods) p.code.views q.code.views a.views b.views in
       let owners = b.owners ∙ sym a.owners in
       let firsts = b.firsts ∙ sym a.firsts in
-      let root = one_method class of.well_formed.methods entry q.root p.root b.root a.root in
-      λ i. record { code = record { views = views i; owners = owners i; firsts = firsts i }; root = root i }
+      let nexts = nexts_once 0 class.methods p.code.nexts q.code.nexts a.nexts b.nexts in
+      let root = one_method class (distinct_bodied class of) entry q.root p.root b.root a.root in
+      λ i. record { code = record { views = views i; owners = owners i; firsts = firsts i; nexts = nexts i }; root = root i }

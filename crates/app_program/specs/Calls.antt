@@ -2,6 +2,7 @@
 use Rattle.std.specs.Prelude.{◌≡◌, ◌⊎◌, ℕ, Bool, List, ◌++◌, Contains}
 use Rattle.clean_base.specs.declared.ids.MethodId.{MethodId}
 use Rattle.ifds_model.specs.State.{At}
+use Rattle.jimple_tree.specs.Bodies.{bodied}
 use Rattle.jimple_tree.specs.declared.tree.Class.{Class}
 use Rattle.jimple_tree.specs.declared.tree.Method.{Method}
 use Rattle.jimple_tree.specs.declared.tree.Sig.{Sig}
@@ -12,9 +13,9 @@ use Rattle.source_sink.specs.declared.line.Line.{Line}
 abbrev pub sig_of : Class → Method → Sig
 sig_of class m = record { class = class.name; result = m.result; name = m.name; params = m.params }
 
--- the signature is that of the class's method with this number
+-- the signature is that of the class's method with this number; a method without a body has none
 abbrev pub IsMethod : Class → Sig → MethodId → Type 0
-IsMethod class sig n = (m : Method) × At class.methods n.0 m × (sig ≡ sig_of class m)
+IsMethod class sig n = (m : Method) × At (bodied class.methods) n.0 m × (sig ≡ sig_of class m)
 
 -- the names that stand in the class's heading behind its own
 abbrev pub supertypes : Class → List (List ℕ)

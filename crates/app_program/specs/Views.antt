@@ -8,13 +8,14 @@ use Rattle.jimple_tree.specs.declared.tree.Imm.{Imm}
 use Rattle.jimple_tree.specs.declared.tree.Imm.TheVariants as imms
 use Rattle.jimple_tree.specs.declared.tree.Invoke.{Invoke}
 use Rattle.jimple_tree.specs.declared.tree.Place.TheVariants as places
+use Rattle.jimple_tree.specs.declared.tree.Rhs.{Rhs}
 use Rattle.jimple_tree.specs.declared.tree.Rhs.TheVariants as rhss
 use Rattle.jimple_tree.specs.declared.tree.Stmt.{Stmt}
 use Rattle.jimple_tree.specs.declared.tree.Stmt.TheVariants as stmts
 use Rattle.source_sink.specs.declared.line.Line.{Line}
 use Rattle.taint_problem.specs.declared.code.CallView.{CallView}
 use Rattle.taint_problem.specs.declared.code.View.{View}
-use Rattle.taint_problem.specs.declared.code.View.TheVariants.{Copy, Kill, Call, Return, Other}
+use Rattle.taint_problem.specs.declared.code.View.TheVariants.{Copy, Kill, Combine, Call, Return, Other}
 use Rattle.taint_problem.specs.declared.fact.Base.TheVariants as bases
 use Rattle.app_program.specs.Calls.{IsKind, IsOpen}
 
@@ -40,12 +41,19 @@ module _ (class : Class) (lines : List Line) where
   abbrev pub IsCall : Option LocalId → Invoke → View → Type 0
   IsCall result invoke view = (call : CallView) × IsCallView result invoke call × (view ≡ Call call)
 
-  -- the statements of the grammar built so far
+  -- the view of an assignment to a local, which is killed where no local is passed on to it
+  abbrev pub IsAssignment : LocalId → Rhs → View → Type 0
+  IsAssignment to (rhss.Use (imms.Local from)) view = view ≡ Copy to (bases.Local from)
+  IsAssignment to (rhss.Cast type (imms.Local from)) view = view ≡ Copy to (bases.Local from)
+  IsAssignment to (rhss.Neg value) view = view ≡ Combine to (local_of value) None
+  IsAssignment to (rhss.Binary op left right) view = view ≡ Combine to (local_of left) (local_of right)
+  IsAssignment to (rhss.Call invoke) view = IsCall (Some to) invoke view
+  IsAssignment to _ view = view ≡ Kill to
+
   abbrev pub IsView : Stmt → View → Type 0
   IsView (stmts.Identity to (given.Param n type)) view = view ≡ Copy to (bases.Param n)
-  IsView (stmts.Assign (places.Local to) (rhss.Use (imms.Local from))) view = view ≡ Copy to (bases.Local from)
-  IsView (stmts.Assign (places.Local to) (rhss.Use (imms.Literal text))) view = view ≡ Kill to
-  IsView (stmts.Assign (places.Local to) (rhss.Call invoke)) view = IsCall (Some to) invoke view
+  IsView (stmts.Identity to _) view = view ≡ Kill to
+  IsView (stmts.Assign (places.Local to) rhs) view = IsAssignment to rhs view
   IsView (stmts.Call invoke) view = IsCall None invoke view
   IsView (stmts.Return value) view = view ≡ Return (given_by value)
   IsView _ view = view ≡ Other

@@ -2,38 +2,39 @@
 // index of methods stands below; the views of statements above.
 ghost use Rattle.std.specs.Prelude.{◌≡◌, ◌≤◌, ◌↔◌, ◌⊎◌, IfOk, IfSome, IfNone, IsTrue, length, Some};
 ghost use Rattle.clean_base.specs.declared.ids.MethodId.{MethodId};
-ghost use Rattle.jimple_tree.specs.Bodies.{IsOfBodies};
+ghost use Rattle.jimple_tree.specs.Bodies.{IsWithin, bodied};
 ghost use Rattle.source_sink.specs.declared.line.Line.{Line};
 ghost use Rattle.app_program.specs.Calls.{IsMethod, IsKind};
-ghost use Rattle.app_program.specs.Index.{IsIndex};
+ghost use Rattle.app_program.specs.Index.{ArePlaces, IsIndex};
 ghost use Rattle.app_program.specs.Kinds.{SaysAmong};
 
-use crate::index::{Index, index_of};
+use crate::index::{Index, index_of, method_at, places_of};
 use clean_base::{MethodId, Name};
 use jimple_tree::{Class, Sig};
 use source_sink::{Kind, Lists};
 use std::alloc::{AllocError, Global};
 use std::marker::Model;
 
-/// Where calls are looked up: the class with its methods by name, and the lists.
+/// Where calls are looked up: the class, the places of its methods with a body, these by name, and the lists.
 #[derive(Drop)]
 pub struct Scope<'a> {
     pub class: &'a Class,
     pub lists: &'a Lists,
+    places: Vec<usize>,
     index: Index,
 }
 
 impl<'a> Model for Scope<'a> {
     ghost use Rattle.std.specs.Prelude.{length};
-    ghost use Rattle.jimple_tree.specs.Bodies.{IsOfBodies};
-    ghost use Rattle.app_program.specs.Index.{IsIndex};
+    ghost use Rattle.jimple_tree.specs.Bodies.{IsWithin, bodied};
+    ghost use Rattle.app_program.specs.Index.{ArePlaces, IsIndex};
     ghost use Rattle.app_program.specs.Known.{Known};
 
     ghost Value = { Known };
 
     ghost view = { λ s. record { class = s.class.now; lines = s.lists.now } };
 
-    ghost invariant = { λ s. IsOfBodies s.class.now × IsIndex s.class.now.methods (length s.class.now.methods) s.index };
+    ghost invariant = { λ s. IsWithin s.class.now × ArePlaces s.class.now.methods (bodied s.class.now.methods) s.places.items × IsIndex (bodied s.class.now.methods) (length (bodied s.class.now.methods)) s.index };
 }
 
 // What one of two kinds says.
@@ -59,10 +60,11 @@ fn with_classes(kind: Kind, lists: &Lists, classes: &[Name], sig: &Sig) -> Kind
     all
 }
 
-// The method of the class that the signature names.
-fn find(class: &Class, index: &Index, sig: &Sig) -> Option<MethodId>
-    requires bodies { IsOfBodies class.now }
-    requires index { IsIndex class.now.methods (length class.now.methods) index.now }
+// The method of the class that the signature names, where it has a body.
+fn find(class: &Class, places: &[usize], index: &Index, sig: &Sig) -> Option<MethodId>
+    requires within { IsWithin class.now }
+    requires places { ArePlaces class.now.methods (bodied class.now.methods) places.now }
+    requires index { IsIndex (bodied class.now.methods) (length (bodied class.now.methods)) index.now }
     ensures { (n : MethodId) → (result ≡ Some n) ↔ IsMethod class.now sig.now n }
 {
     if sig.class != class.name {
@@ -72,7 +74,8 @@ fn find(class: &Class, index: &Index, sig: &Sig) -> Option<MethodId>
     let earlier = index.earlier.as_slice();
     let mut next = index.last.get(&sig.name).copied();
     'named: while let Some(number) = next {
-        if methods[number].is_named(&class.name, sig) {
+        let method = method_at(methods, places, number);
+        if method.is_named(&class.name, sig) {
             return Some(MethodId(number as u32));
         }
         next = earlier[number];
@@ -83,15 +86,24 @@ fn find(class: &Class, index: &Index, sig: &Sig) -> Option<MethodId>
 impl<'a> Scope<'a> {
     /// The scope of a class and its lists.
     pub fn new(alloc: Global, class: &'a Class, lists: &'a Lists) -> Result<Scope<'a>, AllocError>
-        requires { IsOfBodies class.now }
+        requires { IsWithin class.now }
         ensures { IfOk result (λ s. s ≡ record { class = class.now; lines = lists.now }) }
     {
-        let index = index_of(alloc, class.methods.as_slice())?;
+        let places = places_of(alloc, class.methods.as_slice())?;
+        let index = index_of(alloc, class.methods.as_slice(), places.as_slice())?;
         Ok(Scope {
             class,
             lists,
+            places,
             index,
         })
+    }
+
+    /// The places of the methods with a body.
+    pub fn places(&self) -> &[usize]
+        ensures { ArePlaces self.now.class.methods (bodied self.now.class.methods) result.now }
+    {
+        self.places.as_slice()
     }
 
     /// What the lists say of a call.
@@ -107,12 +119,12 @@ impl<'a> Scope<'a> {
         with_classes(extended, self.lists, self.class.implements.as_slice(), sig)
     }
 
-    /// The method of the class that the signature names.
+    /// The method of the class that the signature names, where it has a body.
     pub fn method_of(&self, sig: &Sig) -> Option<MethodId>
         ensures some { IfSome result (λ n. IsMethod self.now.class sig.now n) }
         ensures none { IfNone result ((n : MethodId) → IsMethod self.now.class sig.now n → ⊥) }
     {
-        find(self.class, &self.index, sig)
+        find(self.class, self.places.as_slice(), &self.index, sig)
     }
 
     /// The method that an open call of this kind is of.
@@ -122,6 +134,6 @@ impl<'a> Scope<'a> {
         if kind.source || kind.sink {
             return None;
         }
-        find(self.class, &self.index, sig)
+        find(self.class, self.places.as_slice(), &self.index, sig)
     }
 }

@@ -4,9 +4,12 @@
 
 mod calls;
 mod index;
+mod nexts;
 pub mod program;
+mod successors;
 #[cfg(test)]
 mod tests;
 mod views;
 
 pub use program::{Program, assemble};
+pub use successors::next_places;

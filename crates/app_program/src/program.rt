@@ -1,12 +1,15 @@
 // From a class and a list to a program. Calls and the views of statements stand below.
 ghost use Rattle.std.specs.Prelude.{◌≡◌, ◌<◌, ◌≤◌, List, length, IfOk, IfErr, OnOk, ◌++◌, replicate};
-ghost use Rattle.jimple_tree.specs.Bodies.{IsOfBodies, body_stmts, all_stmts};
+ghost use Rattle.jimple_tree.specs.Bodies.{IsWithin, bodied, body_stmts, all_stmts};
 ghost use Rattle.taint_problem.specs.Code.{IsWhole};
-ghost use Rattle.app_program.specs.Program.{IsProgram, NoProgram, owners_from, firsts_from};
+ghost use Rattle.app_program.specs.Index.{ArePlaces};
+ghost use Rattle.app_program.specs.Program.{IsProgram, NoProgram, AreNexts, owners_from, firsts_from};
 ghost use Rattle.app_program.specs.Views.{AreViews};
 ghost use Rattle.app_program.specs.declared.program.Program.{Program};
 
 use crate::calls::Scope;
+use crate::index::method_at;
+use crate::nexts::nexts_of;
 use crate::views::add_views;
 use clean_base::{InputFault, MethodId, Seq, StmtId, Stop};
 use jimple_tree::{Body, Class, Method, Sig, Stmt};
@@ -53,26 +56,34 @@ fn add_owner(owners: &mut Vec<MethodId>, method: MethodId, count: usize) -> Resu
 }
 
 // For each statement its method.
-fn owners_of(alloc: Global, methods: &[Method]) -> Result<Vec<MethodId>, AllocError>
-    requires { length methods.now ≤ 32768 }
-    ensures { IfOk result (λ v. v.items ≡ owners_from 0 methods.now) }
+fn owners_of(
+    alloc: Global,
+    methods: &[Method],
+    places: &[usize],
+) -> Result<Vec<MethodId>, AllocError>
+    requires places { ArePlaces methods.now (bodied methods.now) places.now }
+    requires few { length (bodied methods.now) ≤ 32768 }
+    ensures { IfOk result (λ v. v.items ≡ owners_from 0 (bodied methods.now)) }
 {
     let mut owners = Vec::new(alloc);
-    for (number, method) in methods.iter().enumerate() {
+    for number in 0..places.len() {
+        let method = method_at(methods, places, number);
         let count = stmts_of(&method.body).len();
         add_owner(&mut owners, MethodId(number as u32), count)?;
     }
     Ok(owners)
 }
 
-// For each method its first statement.
-fn firsts_of(alloc: Global, methods: &[Method]) -> Result<Vec<StmtId>, AllocError>
-    requires { length (all_stmts methods.now) ≤ 4194304 }
-    ensures { IfOk result (λ v. v.items ≡ firsts_from 0 methods.now) }
+// For each method with a body its first statement.
+fn firsts_of(alloc: Global, methods: &[Method], places: &[usize]) -> Result<Vec<StmtId>, AllocError>
+    requires places { ArePlaces methods.now (bodied methods.now) places.now }
+    requires few { length (all_stmts methods.now) ≤ 4194304 }
+    ensures { IfOk result (λ v. v.items ≡ firsts_from 0 (bodied methods.now)) }
 {
     let mut firsts = Vec::new(alloc);
     let mut before = 0;
-    for method in methods {
+    for number in 0..places.len() {
+        let method = method_at(methods, places, number);
         firsts.push(StmtId(before as u32))?;
         before += stmts_of(&method.body).len();
     }
@@ -82,17 +93,20 @@ fn firsts_of(alloc: Global, methods: &[Method]) -> Result<Vec<StmtId>, AllocErro
 // The code of a class.
 fn code_of(alloc: Global, scope: &Scope<'_>) -> Result<Code, AllocError>
     ensures views { IfOk result (λ c. AreViews scope.now.class scope.now.lines (all_stmts scope.now.class.methods) c.views) }
-    ensures owners { IfOk result (λ c. c.owners ≡ owners_from 0 scope.now.class.methods) }
-    ensures firsts { IfOk result (λ c. c.firsts ≡ firsts_from 0 scope.now.class.methods) }
+    ensures owners { IfOk result (λ c. c.owners ≡ owners_from 0 (bodied scope.now.class.methods)) }
+    ensures firsts { IfOk result (λ c. c.firsts ≡ firsts_from 0 (bodied scope.now.class.methods)) }
+    ensures nexts { IfOk result (λ c. AreNexts 0 scope.now.class.methods c.nexts) }
 {
     let methods = scope.class.methods.as_slice();
     let views = views_of(alloc, scope, methods)?;
-    let owners = owners_of(alloc, methods)?;
-    let firsts = firsts_of(alloc, methods)?;
+    let owners = owners_of(alloc, methods, scope.places())?;
+    let firsts = firsts_of(alloc, methods, scope.places())?;
+    let nexts = nexts_of(alloc, methods)?;
     Ok(Code {
         views: Seq::from_vec(views),
         owners: Seq::from_vec(owners),
         firsts: Seq::from_vec(firsts),
+        nexts: Seq::from_vec(nexts),
     })
 }
 
@@ -110,12 +124,12 @@ fn program_of(alloc: Global, scope: &Scope<'_>, entry: &Sig) -> Result<Program, 
     }
 }
 
-/// The program of a class and a list, entered at the method of a signature. The number of a method is its place in the
-/// class, and statements are numbered through all bodies in that order.
+/// The program of a class and a list, entered at the method of a signature. The number of a method is its place among the
+/// class's methods with a body, and statements are numbered through all bodies in that order.
 ///
-/// An error is `EntryMissing`, where the class has no method of that signature, or want of memory.
+/// An error is `EntryMissing`, where the class has no method of that signature with a body, or want of memory.
 pub fn assemble(alloc: Global, class: &Class, lists: &Lists, entry: &Sig) -> Result<Program, Stop>
-    requires { IsOfBodies class.now }
+    requires { IsWithin class.now }
     ensures ok { IfOk result (λ p. IsProgram class.now lists.now entry.now p) }
     ensures only { IfOk result (λ p. (q : Program) → IsProgram class.now lists.now entry.now q → q ≡ p) }
     ensures whole { IfOk result (λ p. IsWhole p.code) }

@@ -1,13 +1,14 @@
-// A class of two methods as a program, and an entry that it lacks.
+// The successors of a body that jumps, a class of two methods as a program, and an entry that it lacks.
 ghost use Rattle.std.specs.Prelude.{◌≡◌, ◌<◌, ◌≤◌, [], length, IfOk};
-ghost use Rattle.jimple_tree.specs.Bodies.{HasBody, IsOfBodies, stmts_of};
+ghost use Rattle.jimple_tree.specs.Bodies.{HasBody, IsWithin, stmts_of};
 ghost use Rattle.jimple_tree.specs.WellFormed.{MethodFits, StmtFits};
 ghost use Rattle.jimple_tree.specs.declared.tree.Body.{Body};
 
-use crate::{Program, assemble};
+use crate::{Program, assemble, next_places};
 use clean_base::{InputFault, LocalId, MethodId, Name, Seq, StmtId, Stop};
 use jimple_tree::{
-    Body, Class, Given, Imm, Invoke, InvokeKind, JType, Local, Method, Place, Rhs, Sig, Stmt,
+    Body, Case, Catch, Class, Cond, Given, Imm, Invoke, InvokeKind, JType, Local, Method, Place,
+    Rhs, Sig, Stmt,
 };
 use source_sink::read_lists;
 use std::alloc::{AllocError, Global};
@@ -143,7 +144,7 @@ fn class(alloc: Global, first: Method, second: Method) -> Result<Class, AllocErr
     requires first { MethodFits first × HasBody first × (length (stmts_of first) ≡ 3) }
     requires second { MethodFits second × HasBody second × (length (stmts_of second) ≡ 3) }
     requires names { length first.name < length second.name }
-    ensures { IfOk result (λ c. IsOfBodies c) }
+    ensures { IfOk result (λ c. IsWithin c) }
 {
     let above = name(alloc, b"Base")?;
     let mut methods = Vec::new(alloc);
@@ -182,7 +183,7 @@ fn helper_method(alloc: Global) -> Result<Method, AllocError>
 }
 
 fn two_methods(alloc: Global) -> Result<Class, AllocError>
-    ensures { IfOk result (λ c. IsOfBodies c) }
+    ensures { IfOk result (λ c. IsWithin c) }
 {
     let main = main_method(alloc)?;
     let helper = helper_method(alloc)?;
@@ -229,10 +230,6 @@ fn are_owners(owners: &[MethodId], told: &[u32]) -> bool {
     owners.len() == told.len() && owners.iter().zip(told).all(|(owner, n)| owner.0 == *n)
 }
 
-fn are_firsts(firsts: &[StmtId], told: &[u32]) -> bool {
-    firsts.len() == told.len() && firsts.iter().zip(told).all(|(first, n)| first.0 == *n)
-}
-
 fn are_views(views: &[View]) -> bool {
     let x = Some(LocalId(0));
     let [first, second, third, fourth, fifth, sixth] = views else {
@@ -246,11 +243,29 @@ fn are_views(views: &[View]) -> bool {
         && is_bare_return(sixth)
 }
 
+fn are_ids(ids: &[StmtId], told: &[u32]) -> bool {
+    ids.len() == told.len() && ids.iter().zip(told).all(|(id, n)| id.0 == *n)
+}
+
+// Each statement leads to the next one of its method.
+fn are_nexts(nexts: &[Seq<StmtId>]) -> bool {
+    let [first, second, third, fourth, fifth, sixth] = nexts else {
+        return false;
+    };
+    are_ids(first.as_slice(), &[1])
+        && are_ids(second.as_slice(), &[2])
+        && are_ids(third.as_slice(), &[])
+        && are_ids(fourth.as_slice(), &[4])
+        && are_ids(fifth.as_slice(), &[5])
+        && are_ids(sixth.as_slice(), &[])
+}
+
 fn is_told(program: &Program) -> bool {
     program.root.0 == 0
         && are_views(program.code.views.as_slice())
         && are_owners(program.code.owners.as_slice(), &[0, 0, 0, 1, 1, 1])
-        && are_firsts(program.code.firsts.as_slice(), &[0, 3])
+        && are_ids(program.code.firsts.as_slice(), &[0, 3])
+        && are_nexts(program.code.nexts.as_slice())
 }
 
 #[test]
@@ -274,5 +289,124 @@ fn entry_that_is_missing(rt: HostRuntime) -> Result<(), Fail> {
         Err(stop) => assert!(rt; stop == Stop::Fault(InputFault::EntryMissing), "{stop:?}"),
         Ok(program) => assert!(rt; false, "{program:?}"),
     }
+    Ok(())
+}
+
+fn case(alloc: Global, value: &[u8], target: u32) -> Result<Case, AllocError> {
+    Ok(Case {
+        value: name(alloc, value)?,
+        target,
+    })
+}
+
+// `case 1: 5; case 2: 0; case 3: 5; default: 3`
+fn switch(alloc: Global) -> Result<Stmt, AllocError> {
+    let mut cases = Vec::new(alloc);
+    cases.push(case(alloc, b"1", 5)?)?;
+    cases.push(case(alloc, b"2", 0)?)?;
+    cases.push(case(alloc, b"3", 5)?)?;
+    Ok(Stmt::Switch {
+        table: false,
+        key: Imm::Local(LocalId(0)),
+        cases: Seq::from_vec(cases),
+        default: 3,
+    })
+}
+
+// `if x == x goto TARGET`
+fn branch(target: u32) -> Stmt {
+    Stmt::If {
+        left: Imm::Local(LocalId(0)),
+        cond: Cond::Eq,
+        right: Imm::Local(LocalId(0)),
+        target,
+    }
+}
+
+fn jumping(alloc: Global) -> Result<Vec<Stmt>, AllocError>
+    ensures { IfOk result (λ v. length v.items ≡ 7) }
+{
+    let mut stmts = Vec::new(alloc);
+    stmts.push(Stmt::Goto(4))?;
+    stmts.push(branch(1))?;
+    stmts.push(switch(alloc)?)?;
+    stmts.push(Stmt::Return(None))?;
+    stmts.push(Stmt::Nop)?;
+    stmts.push(Stmt::Throw(Imm::Local(LocalId(0))))?;
+    stmts.push(branch(0))?;
+    Ok(stmts)
+}
+
+fn clause(alloc: Global, from: u32, to: u32, with: u32) -> Result<Catch, AllocError> {
+    Ok(Catch {
+        class: name(alloc, b"E")?,
+        from,
+        to,
+        with,
+    })
+}
+
+// Clauses that cover a goto that leads to their handler, a return twice, no statement, and the last two statements.
+fn clauses(alloc: Global) -> Result<Vec<Catch>, AllocError> {
+    let mut catches = Vec::new(alloc);
+    catches.push(clause(alloc, 0, 1, 4)?)?;
+    catches.push(clause(alloc, 3, 4, 6)?)?;
+    catches.push(clause(alloc, 3, 4, 6)?)?;
+    catches.push(clause(alloc, 4, 4, 0)?)?;
+    catches.push(clause(alloc, 6, 2, 3)?)?;
+    catches.push(clause(alloc, 5, 7, 1)?)?;
+    Ok(catches)
+}
+
+fn jumping_body(alloc: Global) -> Result<Body, AllocError>
+    ensures { IfOk result (λ b. length b.stmts ≡ 7) }
+{
+    let stmts = jumping(alloc)?;
+    let catches = clauses(alloc)?;
+    Ok(Body {
+        locals: none(alloc),
+        stmts: Seq::from_vec(stmts),
+        catches: Seq::from_vec(catches),
+    })
+}
+
+// The successors of its statements, worked out by hand.
+fn told(place: u32) -> &'static [u32] {
+    match place {
+        0 => &[4],
+        1 => &[1, 2],
+        2 => &[0, 3, 5],
+        3 => &[6],
+        4 => &[5],
+        5 => &[1],
+        _ => &[0, 1],
+    }
+}
+
+fn leads_to(alloc: Global, body: &Body, place: u32, told: &[u32]) -> Result<bool, AllocError>
+    requires body { length body.now.stmts ≡ 7 }
+    requires place { place < 7 }
+{
+    let places = next_places(alloc, body, place)?;
+    Ok(places.as_slice() == told)
+}
+
+fn leads_as_told(alloc: Global, body: &Body) -> Result<bool, AllocError>
+    requires { length body.now.stmts ≡ 7 }
+{
+    for place in 0..7 {
+        if !leads_to(alloc, body, place, told(place))? {
+            return Ok(false);
+        }
+    }
+    Ok(true)
+}
+
+#[test]
+fn successors_of_a_body_that_jumps(rt: HostRuntime) -> Result<(), Fail> {
+    let alloc = rt.alloc();
+    let body = jumping_body(alloc)?;
+    let leads = leads_as_told(alloc, &body)?;
+    assert!(rt; leads, "{body:?}");
     Ok(())
 }

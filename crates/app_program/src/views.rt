@@ -1,9 +1,7 @@
 // How the flow rules see statements (docs/FLOW-RULES.md, "Calls"). What calls are stands below; programs above.
 ghost use Rattle.std.specs.Prelude.{◌≡◌, ◌++◌, List, IfOk, OnOk, map};
-ghost use Rattle.jimple_tree.specs.declared.tree.Place.TheVariants.{Local};
-ghost use Rattle.jimple_tree.specs.declared.tree.Stmt.TheVariants.{Assign};
 ghost use Rattle.taint_problem.specs.declared.code.View.{View};
-ghost use Rattle.app_program.specs.Views.{local_of, given_by, IsCall, IsView, AreViews};
+ghost use Rattle.app_program.specs.Views.{local_of, given_by, IsCall, IsAssignment, IsView, AreViews};
 
 use crate::calls::Scope;
 use clean_base::{LocalId, Seq};
@@ -67,16 +65,29 @@ fn assignment_view(
     to: LocalId,
     rhs: &Rhs,
 ) -> Result<View, AllocError>
-    ensures { IfOk result (λ view. IsView scope.now.class scope.now.lines (Assign (Local to) rhs.now) view) }
+    ensures { IfOk result (λ view. IsAssignment scope.now.class scope.now.lines to rhs.now view) }
 {
     match rhs {
         Rhs::Use(Imm::Local(from)) => Ok(View::Copy {
             to,
             from: Base::Local(*from),
         }),
-        Rhs::Use(Imm::Literal(_)) => Ok(View::Kill { to }),
+        Rhs::Cast(_, Imm::Local(from)) => Ok(View::Copy {
+            to,
+            from: Base::Local(*from),
+        }),
+        Rhs::Neg(value) => Ok(View::Combine {
+            to,
+            left: local_of(value),
+            right: None,
+        }),
+        Rhs::Binary { left, right, .. } => Ok(View::Combine {
+            to,
+            left: local_of(left),
+            right: local_of(right),
+        }),
         Rhs::Call(invoke) => call_view(alloc, scope, Some(to), invoke),
-        _ => Ok(View::Other),
+        _ => Ok(View::Kill { to }),
     }
 }
 
@@ -91,6 +102,7 @@ fn view_of(alloc: Global, scope: &Scope<'_>, stmt: &Stmt) -> Result<View, AllocE
             to: *local,
             from: Base::Param(*number),
         }),
+        Stmt::Identity { local, .. } => Ok(View::Kill { to: *local }),
         Stmt::Assign {
             place: Place::Local(to),
             rhs,

@@ -1,6 +1,7 @@
 pub mod Answer
 pub mod Meaning
 pub mod Report
+pub mod Solved
 pub mod Stage
 pub mod Status
 pub mod Texts

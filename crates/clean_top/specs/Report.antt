@@ -6,6 +6,7 @@ use Rattle.std.specs.Cmp.Lexicographic.{slice_cmp}
 use Rattle.clean_base.specs.declared.ids.LocalId.{LocalId}
 use Rattle.clean_base.specs.declared.ids.MethodId.{MethodId}
 use Rattle.clean_base.specs.declared.ids.StmtId.{StmtId}
+use Rattle.jimple_tree.specs.Bodies.{bodied}
 use Rattle.jimple_tree.specs.declared.tree.Body.{Body}
 use Rattle.jimple_tree.specs.declared.tree.Class.{Class}
 use Rattle.jimple_tree.specs.declared.tree.JType.{JType}
@@ -50,15 +51,16 @@ method_of code s = slice_index_or code.owners s.0 (record { 0 = 0 })
 abbrev pub place_of : Code → StmtId → ℕ
 place_of code s = s.0 - (slice_index_or code.firsts (method_of code s).0 (record { 0 = 0 })).0
 
+-- methods with a body are numbered in their order
 abbrev pub method_text_at : Class → MethodId → List ℕ
-method_text_at class m = slice_index_or (map (method_text class.name) class.methods) m.0 []
+method_text_at class m = slice_index_or (map (method_text class.name) (bodied class.methods)) m.0 []
 
 -- a statement is printed as its method, `#` and its place
 unfoldable pub stmt_text : Class → Code → StmtId → List ℕ
 stmt_text class code s = method_text_at class (method_of code s) ++ codes "#" ++ decimal (place_of code s)
 
 abbrev pub locals_of : Class → MethodId → List Local
-locals_of class m = slice_index_or (map (λ (n : Method). body_locals n.body) class.methods) m.0 []
+locals_of class m = slice_index_or (map (λ (n : Method). body_locals n.body) (bodied class.methods)) m.0 []
 
 -- the name of a local, by its number
 abbrev pub local_name : List Local → LocalId → List ℕ

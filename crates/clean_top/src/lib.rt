@@ -6,6 +6,7 @@
 mod complain;
 mod report;
 mod serve;
+mod solved;
 mod status;
 #[cfg(test)]
 mod tests;

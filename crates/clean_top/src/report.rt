@@ -1,5 +1,7 @@
 // The report: a line for each leak, and the numbers of path edges and contexts.
-ghost use Rattle.std.specs.Prelude.{◌≡◌, ◌++◌, OnOk, IfOk, List, codes, decimal, flat_map, map};
+ghost use Rattle.std.specs.Prelude.{◌≡◌, ◌≤◌, ◌++◌, OnOk, IfOk, IfSome, IfNone, List, codes, decimal, flat_map, length, map};
+ghost use Rattle.ifds_model.specs.State.{At};
+ghost use Rattle.jimple_tree.specs.Bodies.{bodied};
 ghost use Rattle.clean_top.specs.Report.{brackets, type_text, types_text, front_text, method_text, method_text_at, method_of, place_of, stmt_text, locals_of, local_name, line_of, line_text, count_text, report_text, Shows, Reports};
 ghost use Rattle.ifds_model.specs.Runs.{IsEdge, IsContext, IsLeak, Lists, HasCount};
 ghost use Rattle.clean_top.specs.declared.report.Line.{Line};
@@ -9,6 +11,7 @@ use ifds_model::{Leak, Problem};
 use itoa::Buffer;
 use jimple_tree::{Class, JType, Local, Method};
 use std::alloc::{AllocError, Global};
+use std::marker::Model;
 use taint_problem::Code;
 
 /// What a line shows of a leak. Lines are ordered by their sinks, their sources and the bytes of their paths.
@@ -17,6 +20,49 @@ pub struct Line {
     sink: StmtId,
     source: StmtId,
     path: Seq<u8>,
+}
+
+// A class, and its methods with a body by their numbers.
+#[derive(Drop)]
+struct Numbered<'a> {
+    tree: &'a Class,
+    methods: Vec<&'a Method>,
+}
+
+impl<'a> Model for Numbered<'a> {
+    ghost use Rattle.std.specs.Prelude.{◌≡◌, map};
+    ghost use Rattle.jimple_tree.specs.Bodies.{bodied};
+    ghost use Rattle.jimple_tree.specs.declared.tree.Class.{Class};
+
+    ghost Value = { Class };
+
+    ghost view = { λ n. n.tree.now };
+
+    ghost invariant = { λ n. map (λ m. m.now) n.methods.items ≡ bodied n.tree.now.methods };
+}
+
+// The methods with a body, in order.
+fn with_body(alloc: Global, methods: &[Method]) -> Result<Vec<&Method>, AllocError>
+    ensures { IfOk result (λ v. map (λ m. m.now) v.items ≡ bodied methods.now) }
+{
+    methods.iter().filter(|m| m.body.is_some()).collect(alloc)
+}
+
+impl<'a> Numbered<'a> {
+    fn new(alloc: Global, tree: &'a Class) -> Result<Numbered<'a>, AllocError>
+        ensures { IfOk result (λ n. n ≡ tree.now) }
+    {
+        let methods = with_body(alloc, tree.methods.as_slice())?;
+        Ok(Numbered { tree, methods })
+    }
+
+    // The method with that number, where there is one.
+    fn method(&self, m: MethodId) -> Option<&'a Method>
+        ensures some { IfSome result (λ x. At (bodied self.now.methods) m.0 x.now) }
+        ensures none { IfNone result (length (bodied self.now.methods) ≤ m.0) }
+    {
+        self.methods.as_slice().get(m.0 as usize).copied()
+    }
 }
 
 fn write_number(out: &mut Vec<u8>, n: u64) -> Result<(), AllocError>
@@ -85,11 +131,11 @@ fn write_method(out: &mut Vec<u8>, class: &Name, method: &Method) -> Result<(), 
 }
 
 // The text of the method with that number, where there is one.
-fn write_method_at(out: &mut Vec<u8>, class: &Class, m: MethodId) -> Result<(), AllocError>
+fn write_method_at(out: &mut Vec<u8>, class: &Numbered<'_>, m: MethodId) -> Result<(), AllocError>
     ensures { OnOk result (out.new.items ≡ out.old.items ++ method_text_at class.now m) }
 {
-    match class.methods.as_slice().get(m.0 as usize) {
-        Some(method) => write_method(out, &class.name, method),
+    match class.method(m) {
+        Some(method) => write_method(out, &class.tree.name, method),
         None => Ok(()),
     }
 }
@@ -116,7 +162,12 @@ fn place_of(code: &Code, s: StmtId) -> u32
 }
 
 // The text of a statement.
-fn write_stmt(out: &mut Vec<u8>, class: &Class, code: &Code, s: StmtId) -> Result<(), AllocError>
+fn write_stmt(
+    out: &mut Vec<u8>,
+    class: &Numbered<'_>,
+    code: &Code,
+    s: StmtId,
+) -> Result<(), AllocError>
     ensures { OnOk result (out.new.items ≡ out.old.items ++ stmt_text class.now code.now s) }
 {
     write_method_at(out, class, method_of(code, s))?;
@@ -125,10 +176,10 @@ fn write_stmt(out: &mut Vec<u8>, class: &Class, code: &Code, s: StmtId) -> Resul
 }
 
 // The locals of the method with that number.
-fn locals_of(class: &Class, m: MethodId) -> &[Local]
+fn locals_of<'a>(class: &Numbered<'a>, m: MethodId) -> &'a [Local]
     ensures { result.now ≡ locals_of class.now m }
 {
-    match class.methods.as_slice().get(m.0 as usize) {
+    match class.method(m) {
         Some(method) => match &method.body {
             Some(body) => body.locals.as_slice(),
             None => &[],
@@ -147,7 +198,12 @@ fn name_of(locals: &[Local], x: LocalId) -> &[u8]
     }
 }
 
-fn write_line(out: &mut Vec<u8>, class: &Class, code: &Code, line: &Line) -> Result<(), AllocError>
+fn write_line(
+    out: &mut Vec<u8>,
+    class: &Numbered<'_>,
+    code: &Code,
+    line: &Line,
+) -> Result<(), AllocError>
     ensures { OnOk result (out.new.items ≡ out.old.items ++ line_text class.now code.now line.now) }
 {
     out.extend_from_slice(b"leak ")?;
@@ -160,7 +216,7 @@ fn write_line(out: &mut Vec<u8>, class: &Class, code: &Code, line: &Line) -> Res
 }
 
 // What a line shows of a leak.
-fn line_of(alloc: Global, class: &Class, code: &Code, leak: Leak) -> Result<Line, AllocError>
+fn line_of(alloc: Global, class: &Numbered<'_>, code: &Code, leak: Leak) -> Result<Line, AllocError>
     ensures { IfOk result (λ line. line ≡ line_of class.now code.now leak) }
 {
     let locals = locals_of(class, method_of(code, leak.sink));
@@ -175,7 +231,7 @@ fn line_of(alloc: Global, class: &Class, code: &Code, leak: Leak) -> Result<Line
 // The lines of the leaks, in the leaks' order.
 fn lines_of(
     alloc: Global,
-    class: &Class,
+    class: &Numbered<'_>,
     code: &Code,
     leaks: &[Leak],
 ) -> Result<Vec<Line>, AllocError>
@@ -191,7 +247,7 @@ fn lines_of(
 // The lines of the leaks, in their own order.
 fn sorted_lines(
     alloc: Global,
-    class: &Class,
+    class: &Numbered<'_>,
     code: &Code,
     leaks: &[Leak],
 ) -> Result<Vec<Line>, AllocError>
@@ -204,7 +260,7 @@ fn sorted_lines(
 
 fn write_lines(
     out: &mut Vec<u8>,
-    class: &Class,
+    class: &Numbered<'_>,
     code: &Code,
     lines: &[Line],
 ) -> Result<(), AllocError>
@@ -235,7 +291,7 @@ pub struct Report {
 // The text of a report with these lines.
 fn write_report(
     alloc: Global,
-    class: &Class,
+    class: &Numbered<'_>,
     code: &Code,
     lines: &[Line],
     edges: u64,
@@ -265,8 +321,9 @@ pub fn make_report<P: Problem<Mark = Leak>>(
     requires contexts { HasCount (IsContext (P.machine problem.now)) contexts }
     ensures { IfOk result (λ r. Reports (P.machine problem.now) class.now code.now edges r.text.items r.leaky) }
 {
-    let lines = sorted_lines(alloc, class, code, leaks)?;
-    let text = write_report(alloc, class, code, lines.as_slice(), edges, contexts)?;
+    let class = Numbered::new(alloc, class)?;
+    let lines = sorted_lines(alloc, &class, code, leaks)?;
+    let text = write_report(alloc, &class, code, lines.as_slice(), edges, contexts)?;
     Ok(Report {
         text,
         leaky: lines.len() > 0,

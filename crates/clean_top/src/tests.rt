@@ -1,6 +1,8 @@
 // Worked command lines over files and sinks in memory: what is written, to which sink, and the code.
 use crate::clean_plain;
+use crate::solved::is_solved;
 use clean_base::{MemFile, MemShelf, MemSink, Name, Seq, Word};
+use jimple_text::read_classes;
 use std::alloc::{AllocError, Global};
 use std::process::Abort;
 use std::test::Fail;
@@ -333,4 +335,15 @@ fn a_list_past_its_room(rt: HostRuntime) -> Result<(), Fail> {
 // A list of so many bytes.
 fn long_list(alloc: Global, n: usize) -> Result<Vec<u8>, AllocError> {
     vec![in alloc; b'\n'; n]
+}
+
+#[test]
+fn a_class_for_the_solver(rt: HostRuntime) -> Result<(), Fail> {
+    let text = b"public class A extends B { public static void m() { return; } }";
+    let classes = read_classes(rt.alloc(), text, 0)?;
+    for class in classes.as_slice() {
+        let solved = is_solved(rt.alloc(), class)?;
+        assert!(rt; solved);
+    }
+    Ok(())
 }

@@ -1,6 +1,6 @@
 // From the texts of a class file and a list to the report.
 ghost use Rattle.std.specs.Prelude.{◌≡◌, ◌<◌, ◌^◌, IfOk, IfErr, length};
-ghost use Rattle.jimple_tree.specs.Bodies.{IsOfBodies};
+ghost use Rattle.jimple_tree.specs.Bodies.{IsWithin};
 ghost use Rattle.taint_problem.specs.Code.{IsWhole};
 ghost use Rattle.clean_top.specs.Meaning.{IsReport, entered, texts};
 ghost use Rattle.clean_top.specs.Texts.{Unsolved, Reported, Stopped};
@@ -100,7 +100,7 @@ fn class_report(
     lists: &Lists,
     entry: &Sig,
 ) -> Result<Report, TextStop>
-    requires { IsOfBodies class.now }
+    requires { IsWithin class.now }
     ensures ok { IfOk result (λ r. Reported (entered class.now lists.now entry.now) r.text.items r.leaky) }
     ensures err { IfErr result (Stopped (entered class.now lists.now entry.now)) }
 {

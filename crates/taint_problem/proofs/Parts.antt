@@ -1,14 +1,13 @@
 -- The moves of a statement, part by part.
-use Rattle.std.proofs.Common.{◌≡◌, ◌⊎◌, Option, Some, None, inl, inr, sym, ◌∙◌, ap, subst, ◌↔◌, refl}
+use Rattle.std.proofs.Common.{◌≡◌, ◌⊎◌, List, Contains, Option, Some, None, inl, inr, sym, ◌∙◌, ap, subst, ◌↔◌, refl}
 use Rattle.clean_base.specs.declared.ids.MethodId.{MethodId}
 use Rattle.clean_base.specs.declared.ids.StmtId.{StmtId}
 use Rattle.ifds_model.specs.declared.node.Leak.{Leak}
 use Rattle.ifds_model.specs.declared.node.Move.{Move}
-use Rattle.ifds_model.specs.declared.node.Node.{Node}
 use Rattle.taint_problem.specs.Code.{before, Follows}
 use Rattle.taint_problem.specs.Flow.{Over, Passes, Enters}
 use Rattle.taint_problem.specs.Machine.{IsOpen, Behind}
-use Rattle.taint_problem.specs.Moves.{Gives, Keeps, Image, to, into, GoesOn, CallsOut}
+use Rattle.taint_problem.specs.Moves.{Gives, Keeps, Image, ToEach, to, into, CallsOut}
 use Rattle.taint_problem.specs.Only.{IsOnly}
 use Rattle.taint_problem.specs.declared.code.CallView.{CallView}
 use Rattle.taint_problem.specs.declared.code.Code.{Code}
@@ -38,19 +37,38 @@ same_image s t move same m = (
   (λ is. (is.0, (same is.0).1 is.1, is.2)),
 )
 
--- the moves over a statement
-pub over_moves : (view : View) (at : StmtId) (f : Fact) (n : Node) (k g : Option Fact) → IsOnly (Keeps view f) k → IsOnly (Gives view at f) g
-    → (m : Move Fact Leak) → Image (Over view at f) (to n) m ↔ (Image (λ x. k ≡ Some x) (to n) m ⊎ Image (λ x. g ≡ Some x) (to n) m)
-over_moves view at f n k g only_kept only_given m = (
-  (λ is. elim ((over_splits view at f is.0).0 is.1) [
-    | inl kept ↦ inl (is.0, (only_some (Keeps view f) k only_kept is.0).0 kept, is.2)
-    | inr given ↦ inr (is.0, (only_some (Gives view at f) g only_given is.0).0 given, is.2)
-  ]),
+-- to each of these statements, with the facts of the same set
+pub same_each : (ts : List StmtId) (s t : Fact → Type 0) → ((g : Fact) → s g ↔ t g) → (m : Move Fact Leak) → ToEach ts s m ↔ ToEach ts t m
+same_each ts s t same m = (
+  (λ is. (is.0, is.1, (same_image s t (to (before is.0)) same m).0 is.2)),
+  (λ is. (is.0, is.1, (same_image s t (to (before is.0)) same m).1 is.2)),
+)
+
+-- to each of these statements, with the facts of two sets
+pub each_splits : (ts : List StmtId) (s t u : Fact → Type 0) → ((g : Fact) → u g ↔ (s g ⊎ t g)) → (m : Move Fact Leak) → ToEach ts u m ↔ (ToEach ts s m ⊎ ToEach ts t m)
+each_splits ts s t u splits m = (
+  (λ is.
+      let image = is.2 in
+      elim ((splits image.0).0 image.1) [
+        | inl first ↦ inl (is.0, is.1, (image.0, first, image.2))
+        | inr second ↦ inr (is.0, is.1, (image.0, second, image.2))
+      ]),
   (λ is. elim is [
-    | inl kept ↦ (kept.0, (over_splits view at f kept.0).1 (inl ((only_some (Keeps view f) k only_kept kept.0).1 kept.1)), kept.2)
-    | inr given ↦ (given.0, (over_splits view at f given.0).1 (inr ((only_some (Gives view at f) g only_given given.0).1 given.1)), given.2)
+    | inl first ↦ let image = first.2 in (first.0, first.1, (image.0, (splits image.0).1 (inl image.1), image.2))
+    | inr second ↦ let image = second.2 in (second.0, second.1, (image.0, (splits image.0).1 (inr image.1), image.2))
   ]),
 )
+
+-- the moves over a statement
+pub over_moves : (view : View) (at : StmtId) (f : Fact) (ts : List StmtId) (k g : Option Fact) → IsOnly (Keeps view f) k → IsOnly (Gives view at f) g
+    → (m : Move Fact Leak) → ToEach ts (Over view at f) m ↔ (ToEach ts (λ x. k ≡ Some x) m ⊎ ToEach ts (λ x. g ≡ Some x) m)
+over_moves view at f ts k g only_kept only_given = each_splits ts (λ x. k ≡ Some x) (λ x. g ≡ Some x) (Over view at f) (λ x.
+    let kept = only_some (Keeps view f) k only_kept x in
+    let given = only_some (Gives view at f) g only_given x in
+    let over = over_splits view at f x in (
+      (λ is. elim (over.0 is) [ inl keeps ↦ inl (kept.0 keeps) | inr gives ↦ inr (given.0 gives) ]),
+      (λ is. elim is [ inl keeps ↦ over.1 (inl (kept.1 keeps)) | inr gives ↦ over.1 (inr (given.1 gives)) ]),
+    ))
 
 -- a statement is one open call
 pub one_call : (view : View) (c d : CallView) (m n : MethodId) → IsOpen view c m → IsOpen view d n → (c ≡ d) × (m ≡ n)
@@ -83,12 +101,12 @@ behind_other view at f closed g = (
   (λ over. inr (closed, over)),
 )
 
--- the moves to the one statement that follows
-pub on_next : (code : Code) (view : View) (at : StmtId) (f : Fact) (next : StmtId) → ((t : StmtId) → Follows code at t ↔ (t ≡ next))
-    → (m : Move Fact Leak) → GoesOn code view at f m ↔ Image (Behind view at f) (to (before next)) m
-on_next code view at f next only m = (
-  (λ goes. subst (λ (t : StmtId). Image (Behind view at f) (to (before t)) m) ((only goes.0).0 goes.1) goes.2),
-  (λ is. (next, (only next).1 refl, is)),
+-- to the successors of a statement
+pub to_successors : (code : Code) (at : StmtId) (ts : List StmtId) (set : Fact → Type 0) → ((t : StmtId) → Follows code at t ↔ Contains ts t)
+    → (m : Move Fact Leak) → ((next : StmtId) × Follows code at next × Image set (to (before next)) m) ↔ ToEach ts set m
+to_successors code at ts set these m = (
+  (λ goes. (goes.0, (these goes.0).0 goes.1, goes.2)),
+  (λ is. (is.0, (these is.0).1 is.1, is.2)),
 )
 
 -- the moves into a method, from one open call

@@ -1,5 +1,5 @@
 -- All moves of a statement, from its parts.
-use Rattle.std.proofs.Common.{◌≡◌, ◌⊎◌, Option, Some, inl, inr, sym, ◌∙◌, ap, subst, ◌↔◌, refl}
+use Rattle.std.proofs.Common.{◌≡◌, ◌⊎◌, List, Contains, Option, Some, inl, inr, sym, ◌∙◌, ap, subst, ◌↔◌, refl}
 use Rattle.clean_base.specs.declared.ids.MethodId.{MethodId}
 use Rattle.clean_base.specs.declared.ids.StmtId.{StmtId}
 use Rattle.ifds_model.proofs.Members.{at_one}
@@ -12,14 +12,14 @@ use Rattle.ifds_model.specs.declared.node.Node.{Node}
 use Rattle.taint_problem.specs.Code.{before, StandsAt, Follows}
 use Rattle.taint_problem.specs.Flow.{Enters, Exits, Returns, Leaks}
 use Rattle.taint_problem.specs.Machine.{IsOpen, Behind, Step, Back}
-use Rattle.taint_problem.specs.Moves.{Image, to, GoesOn, CallsOut, GoesOut, MarksLeak, CallsAt, ComesBack}
+use Rattle.taint_problem.specs.Moves.{ToEach, to, GoesOn, CallsOut, GoesOut, MarksLeak, CallsAt, ComesBack}
 use Rattle.taint_problem.specs.Only.{IsOnly}
 use Rattle.taint_problem.specs.declared.code.CallView.{CallView}
 use Rattle.taint_problem.specs.declared.code.Code.{Code}
 use Rattle.taint_problem.specs.declared.code.View.{View}
 use Rattle.taint_problem.specs.declared.code.View.TheVariants as views
 use Rattle.taint_problem.specs.declared.fact.Fact.{Fact}
-use Rattle.taint_problem.proofs.Parts.{same_image, only_some}
+use Rattle.taint_problem.proofs.Parts.{only_some, same_each, to_successors}
 
 -- one statement stands at a node
 same_view : (code : Code) (n : Node) (v w : View) → StandsAt code n v → StandsAt code n w → w ≡ v
@@ -101,14 +101,13 @@ no_step code n f none (Call at e) step = none step.0 step.1
 no_step code n f none (Exit x) step = none step.0 step.1
 no_step code n f none (Mark l) step = none step.0 step.1
 
--- the moves to the one statement behind an open call
-pub back_next : (code : Code) (call : CallView) (at : StmtId) (x : Fact) (next : StmtId) (o : Option Fact) → ((t : StmtId) → Follows code at t ↔ (t ≡ next)) → IsOnly (Returns call x) o
-    → (m : Move Fact Leak) → ComesBack code call at x m ↔ Image (λ g. o ≡ Some g) (to (before next)) m
-back_next code call at x next o only one m =
-    let images = same_image (Returns call x) (λ g. o ≡ Some g) (to (before next)) (only_some (Returns call x) o one) m in (
-      (λ comes. images.0 (subst (λ (t : StmtId). Image (Returns call x) (to (before t)) m) ((only comes.0).0 comes.1) comes.2)),
-      (λ is. (next, (only next).1 refl, images.1 is)),
-    )
+-- the moves to the successors of an open call
+pub back_each : (code : Code) (call : CallView) (at : StmtId) (x : Fact) (ts : List StmtId) (o : Option Fact) → ((t : StmtId) → Follows code at t ↔ Contains ts t) → IsOnly (Returns call x) o
+    → (m : Move Fact Leak) → ComesBack code call at x m ↔ ToEach ts (λ g. o ≡ Some g) m
+back_each code call at x ts o these one m =
+    let each = to_successors code at ts (Returns call x) these m in
+    let same = same_each ts (Returns call x) (λ g. o ≡ Some g) (only_some (Returns call x) o one) m in
+    ((λ comes. same.0 (each.0 comes)), (λ is. each.1 (same.1 is)))
 
 -- behind one open call
 pub back_call : (code : Code) (at : StmtId) (call : CallView) (target : MethodId) (x : Fact) → CallsAt code at call target → (m : Move Fact Leak) → Back code at x m ↔ ComesBack code call at x m

@@ -1,5 +1,5 @@
 -- Programs, and where their statements stand.
-use Rattle.std.specs.Prelude.{◌≡◌, ◌+◌, ◌<◌, ◌≤◌, ◌^◌, length, slice_index_or, Contains, Some}
+use Rattle.std.specs.Prelude.{◌≡◌, ◌<◌, ◌≤◌, ◌^◌, List, length, slice_index_or, Contains, Some}
 use Rattle.clean_base.specs.declared.ids.MethodId.{MethodId}
 use Rattle.clean_base.specs.declared.ids.StmtId.{StmtId}
 use Rattle.ifds_model.specs.State.{At}
@@ -18,12 +18,9 @@ before s = record { stmt = s; dir = Forward }
 abbrev pub StandsAt : Code → Node → View → Type 0
 StandsAt code n view = (n.dir ≡ Forward) × At code.views n.stmt.0 view
 
--- the second statement follows the first: it stands behind it in the same method
-pub record Follows (code : Code) (s t : StmtId) : Type 0 where
-  pub behind : t.0 ≡ s.0 + 1
-  pub method : MethodId
-  pub first : At code.owners s.0 method
-  pub second : At code.owners t.0 method
+-- the second statement is a successor of the first
+abbrev pub Follows : Code → StmtId → StmtId → Type 0
+Follows code s t = (ts : List StmtId) × At code.nexts s.0 ts × Contains ts t
 
 -- a context of the method starts at this statement
 abbrev pub StartsAt : Code → MethodId → StmtId → Type 0
@@ -39,6 +36,8 @@ pub record IsWhole (code : Code) : Type 0 where
   pub owners : (m : MethodId) → Contains code.owners m → m.0 < length code.firsts
   -- each method starts in its own body
   pub starts : (m : MethodId) (s : StmtId) → StartsAt code m s → At code.owners s.0 m
+  -- a successor stands in the same method
+  pub inside : (s t : StmtId) → Follows code s t → (m : MethodId) × At code.owners s.0 m × At code.owners t.0 m
   -- open calls are of methods, and their arguments can be numbered
   pub targets : (call : CallView) (m : MethodId) → Contains code.views (Call call) → call.target ≡ Some m → m.0 < length code.firsts
   pub args : (call : CallView) (m : MethodId) → Contains code.views (Call call) → call.target ≡ Some m → length call.args ≤ 256

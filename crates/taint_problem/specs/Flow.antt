@@ -1,12 +1,12 @@
 -- The flow rules, for values without fields, by cases on one statement and one fact (docs/FLOW-RULES.md).
-use Rattle.std.specs.Prelude.{◌≡◌, ◌⊎◌, ℕ, true, Contains, Some, []}
+use Rattle.std.specs.Prelude.{◌≡◌, ◌⊎◌, ℕ, true, Contains, Option, Some, []}
 use Rattle.clean_base.specs.declared.ids.LocalId.{LocalId}
 use Rattle.clean_base.specs.declared.ids.StmtId.{StmtId}
 use Rattle.ifds_model.specs.State.{At}
 use Rattle.ifds_model.specs.declared.node.Leak.{Leak}
 use Rattle.taint_problem.specs.declared.code.CallView.{CallView}
 use Rattle.taint_problem.specs.declared.code.View.{View}
-use Rattle.taint_problem.specs.declared.code.View.TheVariants.{Copy, Kill, Call, Return}
+use Rattle.taint_problem.specs.declared.code.View.TheVariants.{Copy, Kill, Combine, Call, Return}
 use Rattle.taint_problem.specs.declared.fact.Base.{Base}
 use Rattle.taint_problem.specs.declared.fact.Base.TheVariants as bases
 use Rattle.taint_problem.specs.declared.fact.Fact.{Fact}
@@ -20,6 +20,10 @@ IsOf t x = t.base ≡ bases.Local x
 -- another taint of the same source, held by this base
 abbrev pub held_by : Taint → Base → Taint
 held_by t b = record { source = t.source; base = b }
+
+-- the operand is a local that holds the taint
+abbrev pub HoldsOperand : Option LocalId → Taint → Type 0
+HoldsOperand operand t = (x : LocalId) × (operand ≡ Some x) × IsOf t x
 
 -- an argument of the call holds the taint
 abbrev pub HoldsTaint : CallView → Taint → Type 0
@@ -35,6 +39,7 @@ GivesSource _ at u = ⊥
 -- what a taint gives to the local that the statement writes
 abbrev pub GivesTaint : View → Taint → Taint → Type 0
 GivesTaint (Copy to from) t u = (t.base ≡ from) × (u ≡ held_by t (bases.Local to))
+GivesTaint (Combine to left right) t u = (HoldsOperand left t ⊎ HoldsOperand right t) × (u ≡ held_by t (bases.Local to))
 GivesTaint (Call call) t u = HoldsTaint call t × ((x : LocalId) × (call.result ≡ Some x) × (u ≡ held_by t (bases.Local x)))
 GivesTaint _ t u = ⊥
 
@@ -42,6 +47,7 @@ GivesTaint _ t u = ⊥
 abbrev pub Writes : View → LocalId → Type 0
 Writes (Copy to from) x = to ≡ x
 Writes (Kill to) x = to ≡ x
+Writes (Combine to left right) x = to ≡ x
 Writes (Call call) x = call.result ≡ Some x
 Writes _ x = ⊥
 

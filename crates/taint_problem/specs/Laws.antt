@@ -21,9 +21,9 @@ use Rattle.taint_problem.specs.declared.fact.Fact.{Fact}
 owner_at : (code : Code) (s : StmtId) (m : MethodId) → At code.owners s.0 m → method_of code s ≡ m
 owner_at code s m at = get_or_default code.owners s.0 (record { 0 = 0 }) m at.0 ∙ at.1
 
--- what follows a statement stands in its method
-follows_inside : (code : Code) (s t : StmtId) → Follows code s t → method_of code t ≡ method_of code s
-follows_inside code s t follows = owner_at code t follows.method follows.second ∙ sym (owner_at code s follows.method follows.first)
+-- a successor of a statement stands in its method
+follows_inside : (code : Code) → IsWhole code → (s t : StmtId) → Follows code s t → method_of code t ≡ method_of code s
+follows_inside code whole s t follows = let same = whole.inside s t follows in owner_at code t same.0 same.2 ∙ sym (owner_at code s same.0 same.1)
 
 pub one_start : (code : Code) (root : MethodId) → root.0 < length code.firsts → (n : Node) × ((m : Node) → Start code (machine code root).root m ↔ (m ≡ n))
 one_start code root enters = (
@@ -40,8 +40,8 @@ one_start code root enters = (
 pub starts_inside : (code : Code) → IsWhole code → (e : Context Fact) (n : Node) → Start code e n → method_of code n.stmt ≡ e.method
 starts_inside code whole e n start = owner_at code n.stmt e.method (whole.starts e.method n.stmt start.1)
 
-pub goes_inside : (code : Code) (n m : Node) (f g : Fact) → Step code n f (Go m g) → method_of code m.stmt ≡ method_of code n.stmt
-goes_inside code n m f g step = ap (λ (k : Node). method_of code k.stmt) step.3.2 ∙ follows_inside code n.stmt step.3.0 step.3.1
+pub goes_inside : (code : Code) → IsWhole code → (n m : Node) (f g : Fact) → Step code n f (Go m g) → method_of code m.stmt ≡ method_of code n.stmt
+goes_inside code whole n m f g step = ap (λ (k : Node). method_of code k.stmt) step.3.2 ∙ follows_inside code whole n.stmt step.3.0 step.3.1
 
 pub back_goes : (code : Code) (call : StmtId) (x : Fact) (m : Move Fact Leak) → Back code call x m → (n : Node) × (f : Fact) × (m ≡ Go n f)
 back_goes code call x (Go n f) back = (n, f, refl)
@@ -49,8 +49,8 @@ back_goes code call x (Call at e) back = absurd back
 back_goes code call x (Exit y) back = absurd back
 back_goes code call x (Mark l) back = absurd back
 
-pub back_inside : (code : Code) (call : StmtId) (x : Fact) (n : Node) (f : Fact) → Back code call x (Go n f) → method_of code n.stmt ≡ method_of code call
-back_inside code call x n f back = ap (λ (k : Node). method_of code k.stmt) back.5.2 ∙ follows_inside code call back.5.0 back.5.1
+pub back_inside : (code : Code) → IsWhole code → (call : StmtId) (x : Fact) (n : Node) (f : Fact) → Back code call x (Go n f) → method_of code n.stmt ≡ method_of code call
+back_inside code whole call x n f back = ap (λ (k : Node). method_of code k.stmt) back.5.2 ∙ follows_inside code whole call back.5.0 back.5.1
 
 cases_lt : (m n : ℕ) → (m < n) ⊎ (n ≤ m)
 cases_lt m zero = inr (omega arith)

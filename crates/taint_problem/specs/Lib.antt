@@ -4,4 +4,5 @@ pub mod Laws
 pub mod Machine
 pub mod Moves
 pub mod Only
+pub mod Props
 pub mod Sample

@@ -1,5 +1,5 @@
 -- The moves of a statement in parts: behind it, into a method that it calls, out of its own method, and its leaks.
-use Rattle.std.specs.Prelude.{◌≡◌, ℕ, ◌<◌, List, Option, Some}
+use Rattle.std.specs.Prelude.{◌≡◌, ℕ, ◌<◌, List, Contains, Option, Some}
 use Rattle.clean_base.specs.declared.ids.LocalId.{LocalId}
 use Rattle.clean_base.specs.declared.ids.MethodId.{MethodId}
 use Rattle.clean_base.specs.declared.ids.StmtId.{StmtId}
@@ -39,6 +39,10 @@ Image {X} set move m = (x : X) × set x × (m ≡ move x)
 -- to a node
 abbrev pub to : Node → Fact → Move Fact Leak
 to n f = moves.Go n f
+
+-- to each of these statements, with each fact of a set
+abbrev pub ToEach : List StmtId → (Fact → Type 0) → Move Fact Leak → Type 0
+ToEach nexts set m = (next : StmtId) × Contains nexts next × Image set (to (before next)) m
 
 -- into a method, with a fact, from a call
 abbrev pub into : StmtId → MethodId → Fact → Move Fact Leak

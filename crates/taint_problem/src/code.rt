@@ -17,8 +17,20 @@ pub struct CallView {
 /// A statement as the flow rules see it (docs/FLOW-RULES.md, "Statements").
 #[derive(Debug, Drop)]
 pub enum View {
-    Copy { to: LocalId, from: Base },
-    Kill { to: LocalId },
+    Copy {
+        to: LocalId,
+        from: Base,
+    },
+    /// An assignment to a local that passes nothing on.
+    Kill {
+        to: LocalId,
+    },
+    /// An operation, with the local of each operand that is one.
+    Combine {
+        to: LocalId,
+        left: Option<LocalId>,
+        right: Option<LocalId>,
+    },
     Call(CallView),
     /// A return, with the local that it gives.
     Return(Option<LocalId>),
@@ -34,4 +46,6 @@ pub struct Code {
     pub owners: Seq<MethodId>,
     /// The first statement of each method.
     pub firsts: Seq<StmtId>,
+    /// The successors of each statement.
+    pub nexts: Seq<Seq<StmtId>>,
 }

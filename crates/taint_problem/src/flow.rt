@@ -1,7 +1,7 @@
 // What a statement does to one fact (docs/FLOW-RULES.md). Facts and statements stand below, the moves that this makes
 // above.
-ghost use Rattle.std.specs.Prelude.{◌≡◌, ◌↔◌, IsTrue, true, Contains, Some};
-ghost use Rattle.taint_problem.specs.Flow.{IsOf, held_by, HoldsTaint, GivesSource, GivesTaint, Overwrites, Writes, Passes, Exits, Returns, Leaks};
+ghost use Rattle.std.specs.Prelude.{◌≡◌, ◌⊎◌, ◌↔◌, IsTrue, true, Contains, Some};
+ghost use Rattle.taint_problem.specs.Flow.{IsOf, held_by, HoldsOperand, HoldsTaint, GivesSource, GivesTaint, Overwrites, Writes, Passes, Exits, Returns, Leaks};
 ghost use Rattle.taint_problem.specs.Moves.{Gives, Keeps};
 ghost use Rattle.taint_problem.specs.Only.{IsOnly};
 
@@ -27,6 +27,23 @@ pub(crate) const fn held_by(taint: Taint, base: Base) -> Taint
         source: taint.source,
         base,
     }
+}
+
+// Whether the operand is a local that holds the taint.
+fn holds_operand(operand: Option<LocalId>, taint: Taint) -> bool
+    ensures { IsTrue result ↔ HoldsOperand operand taint }
+{
+    match operand {
+        Some(local) => taint.base == Base::Local(local),
+        None => false,
+    }
+}
+
+// Whether one of the operands holds the taint.
+fn holds_either(left: Option<LocalId>, right: Option<LocalId>, taint: Taint) -> bool
+    ensures { IsTrue result ↔ (HoldsOperand left taint ⊎ HoldsOperand right taint) }
+{
+    holds_operand(left, taint) || holds_operand(right, taint)
 }
 
 // Whether the local is an argument of the call.
@@ -60,6 +77,7 @@ fn writes(view: &View, local: LocalId) -> bool
     match view {
         View::Copy { to, .. } => *to == local,
         View::Kill { to } => *to == local,
+        View::Combine { to, .. } => *to == local,
         View::Call(call) => gives_result(call, local),
         _ => false,
     }
@@ -104,6 +122,9 @@ fn given_taint(view: &View, taint: Taint) -> Option<Taint>
 {
     match view {
         View::Copy { to, from } if *from == taint.base => Some(held_by(taint, Base::Local(*to))),
+        View::Combine { to, left, right } if holds_either(*left, *right, taint) => {
+            Some(held_by(taint, Base::Local(*to)))
+        }
         View::Call(call) if holds_taint(call, taint) => {
             call.result.map(|local| held_by(taint, Base::Local(local)))
         }

@@ -1,18 +1,17 @@
-// The moves of a fact at a statement, in parts: behind it, into a method that it calls, out of its own method, and its
-// leak; and the moves behind a call, of what comes back. The rules over one fact, and where statements stand, are
-// below, the problem that is made of this above.
-ghost use Rattle.std.specs.Prelude.{◌≡◌, ◌⊎◌, ◌≤◌, ◌^◌, OnOk, IfSome, IfNone, length, Some};
+// The moves of a fact at a statement, in parts: to its successors, into a method that it calls, out of its own method,
+// and its leak; and the moves to the successors of a call, of what comes back. The rules over one fact, and where
+// statements stand, are below, the problem that is made of this above.
+ghost use Rattle.std.specs.Prelude.{◌≡◌, ◌⊎◌, ◌≤◌, OnOk, IfSome, IfNone, length, Some};
 ghost use Rattle.ifds_model.specs.Machine.{AppendsSet};
 ghost use Rattle.clean_base.specs.declared.ids.MethodId.{MethodId};
-ghost use Rattle.taint_problem.specs.Code.{before, StandsAt, Follows, IsWhole};
+ghost use Rattle.taint_problem.specs.Code.{StandsAt, IsWhole};
 ghost use Rattle.taint_problem.specs.Flow.{Over, Enters};
 ghost use Rattle.taint_problem.specs.Machine.{IsOpen, Behind, Step, Back};
-ghost use Rattle.taint_problem.specs.Moves.{Image, to, into, GoesOn, CallsOut, GoesOut, MarksLeak, EntersFirst, CallsAt, ComesBack};
-ghost use Rattle.taint_problem.specs.Only.{IsOnly};
+ghost use Rattle.taint_problem.specs.Moves.{Image, ToEach, into, GoesOn, CallsOut, GoesOut, MarksLeak, EntersFirst, CallsAt, ComesBack};
 ghost use Rattle.taint_problem.specs.declared.code.CallView.{CallView};
 
 use crate::flow::{exits, given, held_by, kept, leak_of, local_of, passes, returns};
-use crate::places::{before, next_of, view_at};
+use crate::places::{before, nexts_of, view_at};
 use crate::{Base, CallView, Code, Fact, Taint, View};
 use clean_base::{LocalId, MethodId, StmtId};
 use ifds_model::{Context, Dir, Leak, Move, Node};
@@ -37,14 +36,31 @@ fn open_call(view: &View) -> Option<OpenCall<'_>>
     Some(OpenCall { call, target })
 }
 
-// Adds the move to a node with a fact, where there is one.
-fn go(next: Node, fact: Option<Fact>, out: &mut Vec<Move<Fact, Leak>>) -> Result<(), AllocError>
-    ensures { OnOk result (AppendsSet (Image (λ g. fact ≡ Some g) (to next)) out.old.items out.new.items) }
+// Adds the moves with a fact to each of these statements.
+fn go_each(nexts: &[StmtId], fact: Fact, out: &mut Vec<Move<Fact, Leak>>) -> Result<(), AllocError>
+    ensures { OnOk result (AppendsSet (ToEach nexts.now (λ g. g ≡ fact)) out.old.items out.new.items) }
 {
-    if let Some(fact) = fact {
-        out.push(Move::Go { node: next, fact })?;
+    for next in nexts {
+        out.push(Move::Go {
+            node: before(*next),
+            fact,
+        })?;
     }
     Ok(())
+}
+
+// Adds the moves to each of these statements, where there is a fact.
+fn go(
+    nexts: &[StmtId],
+    fact: Option<Fact>,
+    out: &mut Vec<Move<Fact, Leak>>,
+) -> Result<(), AllocError>
+    ensures { OnOk result (AppendsSet (ToEach nexts.now (λ g. fact ≡ Some g)) out.old.items out.new.items) }
+{
+    match fact {
+        Some(fact) => go_each(nexts, fact, out),
+        None => Ok(()),
+    }
 }
 
 // Adds the moves over a statement that is no open call.
@@ -52,32 +68,32 @@ fn go_over(
     view: &View,
     at: StmtId,
     fact: Fact,
-    next: Node,
+    nexts: &[StmtId],
     out: &mut Vec<Move<Fact, Leak>>,
 ) -> Result<(), AllocError>
-    ensures { OnOk result (AppendsSet (Image (Over view.now at fact) (to next)) out.old.items out.new.items) }
+    ensures { OnOk result (AppendsSet (ToEach nexts.now (Over view.now at fact)) out.old.items out.new.items) }
 {
-    go(next, kept(view, fact), out)?;
-    go(next, given(view, at, fact), out)
+    go(nexts, kept(view, fact), out)?;
+    go(nexts, given(view, at, fact), out)
 }
 
-// Adds the moves to the node behind a statement.
+// Adds the moves behind a statement, to each of these.
 fn go_behind(
     view: &View,
     at: StmtId,
     fact: Fact,
-    next: Node,
+    nexts: &[StmtId],
     out: &mut Vec<Move<Fact, Leak>>,
 ) -> Result<(), AllocError>
-    ensures { OnOk result (AppendsSet (Image (Behind view.now at fact) (to next)) out.old.items out.new.items) }
+    ensures { OnOk result (AppendsSet (ToEach nexts.now (Behind view.now at fact)) out.old.items out.new.items) }
 {
     match open_call(view) {
-        Some(OpenCall { call, .. }) => go(next, passes(call, fact), out),
-        None => go_over(view, at, fact, next, out),
+        Some(OpenCall { call, .. }) => go(nexts, passes(call, fact), out),
+        None => go_over(view, at, fact, nexts, out),
     }
 }
 
-// Adds the moves behind a statement, where one follows.
+// Adds the moves to the successors of a statement.
 fn go_on(
     code: &Code,
     view: &View,
@@ -85,13 +101,9 @@ fn go_on(
     fact: Fact,
     out: &mut Vec<Move<Fact, Leak>>,
 ) -> Result<(), AllocError>
-    requires { length code.now.owners ≤ 2 ^ 32 }
     ensures { OnOk result (AppendsSet (GoesOn code.now view.now at fact) out.old.items out.new.items) }
 {
-    match next_of(code, at) {
-        Some(next) => go_behind(view, at, fact, before(next), out),
-        None => Ok(()),
-    }
+    go_behind(view, at, fact, nexts_of(code, at), out)
 }
 
 // The move into a method with a fact.
@@ -205,7 +217,7 @@ fn mark(
     Ok(())
 }
 
-// Adds the moves behind a statement, and into the method that it calls.
+// Adds the moves to the successors of a statement, and into the method that it calls.
 fn go_on_or_call(
     code: &Code,
     view: &View,
@@ -213,8 +225,7 @@ fn go_on_or_call(
     fact: Fact,
     out: &mut Vec<Move<Fact, Leak>>,
 ) -> Result<(), AllocError>
-    requires owners { length code.now.owners ≤ 2 ^ 32 }
-    requires args { (call : CallView) (target : MethodId) → IsOpen view.now call target → length call.args ≤ 256 }
+    requires { (call : CallView) (target : MethodId) → IsOpen view.now call target → length call.args ≤ 256 }
     ensures { OnOk result (AppendsSet (λ m. GoesOn code.now view.now at fact m ⊎ CallsOut view.now at fact m) out.old.items out.new.items) }
 {
     go_on(code, view, at, fact, out)?;
@@ -250,7 +261,7 @@ pub(crate) fn step_at(
     go_out_or_mark(view, node.stmt, fact, out)
 }
 
-// Adds the move behind an open call, where a statement follows.
+// Adds the moves to the successors of an open call.
 fn come_back(
     code: &Code,
     call: &CallView,
@@ -258,23 +269,19 @@ fn come_back(
     exit: Fact,
     out: &mut Vec<Move<Fact, Leak>>,
 ) -> Result<(), AllocError>
-    requires owners { length code.now.owners ≤ 2 ^ 32 }
     ensures { OnOk result (AppendsSet (ComesBack code.now call.now at exit) out.old.items out.new.items) }
 {
-    match next_of(code, at) {
-        Some(next) => go(before(next), returns(call, exit), out),
-        None => Ok(()),
-    }
+    let nexts = nexts_of(code, at);
+    go(nexts, returns(call, exit), out)
 }
 
-// Adds the moves behind a call, for what the method hands back.
+// Adds the moves to the successors of a call, for what the method hands back.
 pub(crate) fn back_at(
     code: &Code,
     at: StmtId,
     exit: Fact,
     out: &mut Vec<Move<Fact, Leak>>,
 ) -> Result<(), AllocError>
-    requires whole { IsWhole code.now }
     ensures { OnOk result (AppendsSet (Back code.now at exit) out.old.items out.new.items) }
 {
     match call_at(code, at) {

@@ -1,6 +1,6 @@
-// Where statements of a program stand: at nodes, behind one another, in methods and at their starts. Programs stand
+// Where statements of a program stand: at nodes, before their successors, in methods and at their starts. Programs stand
 // below, their moves above.
-ghost use Rattle.std.specs.Prelude.{◌≡◌, ◌≤◌, ◌^◌, IfSome, IfNone, length};
+ghost use Rattle.std.specs.Prelude.{◌≡◌, ◌↔◌, IfSome, IfNone, Contains};
 ghost use Rattle.taint_problem.specs.Code.{before, StandsAt, Follows, method_of};
 ghost use Rattle.taint_problem.specs.Machine.{Start};
 ghost use Rattle.taint_problem.specs.Only.{IsOnly};
@@ -31,18 +31,13 @@ pub(crate) fn view_at(code: &Code, node: Node) -> Option<&View>
     code.views.as_slice().get(node.stmt.0 as usize)
 }
 
-// The statement that follows, in the same method.
-pub(crate) fn next_of(code: &Code, at: StmtId) -> Option<StmtId>
-    requires { length code.now.owners ≤ 2 ^ 32 }
-    ensures { IsOnly (Follows code.now at) result }
+// The successors of a statement.
+pub(crate) fn nexts_of(code: &Code, at: StmtId) -> &[StmtId]
+    ensures { (t : StmtId) → Follows code.now at t ↔ Contains result.now t }
 {
-    let owners = code.owners.as_slice();
-    let here = at.0 as usize;
-    let next = here + 1;
-    if next < owners.len() && owners[here] == owners[next] {
-        Some(StmtId(next as u32))
-    } else {
-        None
+    match code.nexts.as_slice().get(at.0 as usize) {
+        Some(nexts) => nexts.as_slice(),
+        None => &[],
     }
 }
 

@@ -1,7 +1,9 @@
 // A program, entered at a method, as a problem for a solver. The moves of its statements stand below; the crates that
 // make programs of classes, and those that solve, stand above.
 ghost use Rattle.std.specs.Prelude.{◌≡◌, ◌<◌, length};
+ghost use Rattle.std.proofs.Props.{props};
 ghost use Rattle.taint_problem.specs.Code.{IsWhole};
+ghost use Rattle.taint_problem.specs.Props.{one_method_prop};
 
 use crate::moves::{back_at, step_at};
 use crate::places::{method_of, start_of, view_at};
@@ -15,7 +17,7 @@ use std::alloc::AllocError;
 pub struct TaintProblem<'a> {
     code: &'a Code,
     root: MethodId,
-    ghost whole: { IsWhole code.now },
+    ghost whole: { IsWhole code.now } by { Prim.hlevel (props, one_method_prop) },
     ghost enters: { root.0 < length code.now.firsts },
 }
 
@@ -103,7 +105,7 @@ impl Problem for TaintProblem<'_> {
 
     ghost starts_inside = { λ p e n s. starts_inside p.code.now p.whole e n s };
 
-    ghost goes_inside = { λ p n m f g s. goes_inside p.code.now n m f g s };
+    ghost goes_inside = { λ p n m f g s. goes_inside p.code.now p.whole n m f g s };
 
     ghost calls_here = { λ p n f at e s. s.2 };
 
@@ -111,7 +113,7 @@ impl Problem for TaintProblem<'_> {
 
     ghost back_goes = { λ p call x m s. back_goes p.code.now call x m s };
 
-    ghost back_inside = { λ p call x n f s. back_inside p.code.now call x n f s };
+    ghost back_inside = { λ p call x n f s. back_inside p.code.now p.whole call x n f s };
 
     ghost reaches_itself = { λ p m. tt };
 

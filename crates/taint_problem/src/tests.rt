@@ -1,7 +1,8 @@
-// The moves of a small program: a source's value goes into a method and comes back, and a sink takes it.
-ghost use Rattle.std.specs.Prelude.{◌≡◌, IfOk};
+// The moves of a small program: a source's value goes into a method and comes back, and a sink takes it; a taint goes
+// through a branch, an operation and a loop.
+ghost use Rattle.std.specs.Prelude.{◌≡◌, ◌++◌, IfOk, OnOk};
 ghost use Rattle.taint_problem.specs.Code.{IsWhole};
-ghost use Rattle.taint_problem.specs.Sample.{views, owners, firsts};
+ghost use Rattle.taint_problem.specs.Sample.{call_views, loop_views, views, owners, firsts, call_nexts, loop_nexts, nexts};
 
 use crate::{Base, CallView, Code, Fact, Taint, TaintProblem, View};
 use clean_base::{Fields, LocalId, MethodId, Seq, StmtId};
@@ -14,6 +15,8 @@ const VALUE: LocalId = LocalId(0);
 
 const RETURNED: LocalId = LocalId(1);
 
+const COMBINED: LocalId = LocalId(1);
+
 // The leak of the sink.
 fn leak() -> Leak {
     Leak {
@@ -24,8 +27,8 @@ fn leak() -> Leak {
     }
 }
 
-fn sample_views(alloc: Global) -> Result<Seq<View>, AllocError>
-    ensures { IfOk result (λ v. v ≡ views) }
+fn call_views(alloc: Global) -> Result<Vec<View>, AllocError>
+    ensures { IfOk result (λ v. v.items ≡ call_views) }
 {
     let source = CallView {
         result: Some(LocalId(0)),
@@ -58,7 +61,71 @@ fn sample_views(alloc: Global) -> Result<Seq<View>, AllocError>
         from: Base::Param(0),
     })?;
     views.push(View::Return(Some(LocalId(0))))?;
+    Ok(views)
+}
+
+fn push_loop_views(views: &mut Vec<View>) -> Result<(), AllocError>
+    ensures { OnOk result (views.new.items ≡ views.old.items ++ loop_views) }
+{
+    views.push(View::Copy {
+        to: LocalId(0),
+        from: Base::Param(0),
+    })?;
+    views.push(View::Other)?;
+    views.push(View::Combine {
+        to: LocalId(1),
+        left: Some(LocalId(0)),
+        right: Some(LocalId(1)),
+    })?;
+    views.push(View::Other)?;
+    views.push(View::Return(Some(LocalId(1))))?;
+    Ok(())
+}
+
+fn sample_views(alloc: Global) -> Result<Seq<View>, AllocError>
+    ensures { IfOk result (λ v. v ≡ views) }
+{
+    let mut views = call_views(alloc)?;
+    push_loop_views(&mut views)?;
     Ok(Seq::from_vec(views))
+}
+
+fn list(alloc: Global, stmts: &[StmtId]) -> Result<Seq<StmtId>, AllocError>
+    ensures { IfOk result (λ list. list ≡ stmts.now) }
+{
+    Ok(Seq::from_vec(Vec::from_slice(alloc, stmts)?))
+}
+
+fn call_nexts(alloc: Global) -> Result<Vec<Seq<StmtId>>, AllocError>
+    ensures { IfOk result (λ n. n.items ≡ call_nexts) }
+{
+    let mut nexts = Vec::new(alloc);
+    nexts.push(list(alloc, &[StmtId(1)])?)?;
+    nexts.push(list(alloc, &[StmtId(2), StmtId(3)])?)?;
+    nexts.push(list(alloc, &[StmtId(3)])?)?;
+    nexts.push(list(alloc, &[])?)?;
+    nexts.push(list(alloc, &[StmtId(5)])?)?;
+    nexts.push(list(alloc, &[])?)?;
+    Ok(nexts)
+}
+
+fn push_loop_nexts(alloc: Global, nexts: &mut Vec<Seq<StmtId>>) -> Result<(), AllocError>
+    ensures { OnOk result (nexts.new.items ≡ nexts.old.items ++ loop_nexts) }
+{
+    nexts.push(list(alloc, &[StmtId(7)])?)?;
+    nexts.push(list(alloc, &[StmtId(8), StmtId(9)])?)?;
+    nexts.push(list(alloc, &[StmtId(9)])?)?;
+    nexts.push(list(alloc, &[StmtId(7), StmtId(10)])?)?;
+    nexts.push(list(alloc, &[])?)?;
+    Ok(())
+}
+
+fn sample_nexts(alloc: Global) -> Result<Seq<Seq<StmtId>>, AllocError>
+    ensures { IfOk result (λ n. n ≡ nexts) }
+{
+    let mut nexts = call_nexts(alloc)?;
+    push_loop_nexts(alloc, &mut nexts)?;
+    Ok(Seq::from_vec(nexts))
 }
 
 fn sample(alloc: Global) -> Result<Code, AllocError>
@@ -73,12 +140,18 @@ fn sample(alloc: Global) -> Result<Code, AllocError>
         MethodId(0),
         MethodId(1),
         MethodId(1),
+        MethodId(2),
+        MethodId(2),
+        MethodId(2),
+        MethodId(2),
+        MethodId(2),
     ];
-    let firsts = [StmtId(0), StmtId(4)];
+    let firsts = [StmtId(0), StmtId(4), StmtId(6)];
     Ok(Code {
         views,
         owners: Seq::from_vec(Vec::from_slice(alloc, &owners)?),
         firsts: Seq::from_vec(Vec::from_slice(alloc, &firsts)?),
+        nexts: sample_nexts(alloc)?,
     })
 }
 
@@ -158,14 +231,60 @@ fn a_taint_goes_into_a_method_and_comes_back(rt: HostRuntime) -> Result<(), Fail
     };
     let moves = [goes(1, zero), goes(1, value)];
     expect(&rt, alloc, &problem, edge(0, zero, 0, zero), &moves)?;
-    let moves = [goes(2, value), call];
+    let moves = [goes(2, value), goes(3, value), call];
     expect(&rt, alloc, &problem, edge(0, zero, 1, value), &moves)?;
     let moves = [goes(5, param), goes(5, value)];
     expect(&rt, alloc, &problem, edge(1, param, 4, param), &moves)?;
     let moves = [Move::Exit { fact: exit }];
     expect(&rt, alloc, &problem, edge(1, param, 5, value), &moves)?;
-    expect(&rt, alloc, &problem, join, &[goes(2, returned)])?;
+    expect(
+        &rt,
+        alloc,
+        &problem,
+        join,
+        &[goes(2, returned), goes(3, returned)],
+    )?;
     let moves = [goes(3, returned), Move::Mark { mark: leak() }];
     expect(&rt, alloc, &problem, edge(0, zero, 2, returned), &moves)?;
+    Ok(())
+}
+
+#[test]
+fn a_taint_goes_through_a_branch_and_a_loop(rt: HostRuntime) -> Result<(), Fail> {
+    let alloc = rt.alloc();
+    let code = sample(alloc)?;
+    let problem = TaintProblem::new(&code, MethodId(2));
+    let param = held(Base::Param(0));
+    let value = held(Base::Local(VALUE));
+    let sum = held(Base::Local(COMBINED));
+    // The branch goes to the operation and past it.
+    let moves = [goes(8, value), goes(9, value)];
+    expect(&rt, alloc, &problem, edge(2, param, 7, value), &moves)?;
+    // The left operand stays, and what the operation writes has its taint.
+    let moves = [goes(9, value), goes(9, sum)];
+    expect(&rt, alloc, &problem, edge(2, param, 8, value), &moves)?;
+    // The right operand is written anew, with its own taint.
+    expect(
+        &rt,
+        alloc,
+        &problem,
+        edge(2, param, 8, sum),
+        &[goes(9, sum)],
+    )?;
+    // A taint of no operand stays.
+    expect(
+        &rt,
+        alloc,
+        &problem,
+        edge(2, param, 8, param),
+        &[goes(9, param)],
+    )?;
+    // Back to the branch, and out of the loop.
+    let moves = [goes(7, sum), goes(10, sum)];
+    expect(&rt, alloc, &problem, edge(2, param, 9, sum), &moves)?;
+    let moves = [Move::Exit {
+        fact: held(Base::Return),
+    }];
+    expect(&rt, alloc, &problem, edge(2, param, 10, sum), &moves)?;
     Ok(())
 }

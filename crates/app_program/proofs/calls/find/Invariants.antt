@@ -1,4 +1,5 @@
 use Rattle.std.proofs.Common.{◌≤◌, ℕ, length}
+use Rattle.jimple_tree.specs.Bodies.{bodied}
 use Rattle.app_program.specs.Index.{IsLast}
 use Rattle.app_program.proofs.Named.{NoneFrom, left}
 use Rattle.app_program.proofs.calls.find.Given as goal
@@ -6,8 +7,8 @@ use Rattle.app_program.proofs.calls.find.Given as goal
 abbrev pub invariant-named : goal.invariant-named
 invariant-named l = record {
   from : ℕ;
-  within : from ≤ length l.class.methods;
-  next : IsLast l.class.methods l.sig.name from l.next;
+  within : from ≤ length (bodied l.class.methods);
+  next : IsLast (bodied l.class.methods) l.sig.name from l.next;
   later : NoneFrom l.class l.sig from;
 }
 
