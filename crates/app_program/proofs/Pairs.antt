@@ -2,7 +2,7 @@
 use Rattle.std.proofs.Common.{◌≡◌, ◌≢◌, ℕ, zero, suc, ◌<◌, ◌≤◌, Bool, true, false, cond, is_some, List, [], ◌∷◌, ◌++◌, length, All, sym, ap, subst, arith}
 use Rattle.std.specs.Prelude.{AllPairs, filter}
 use Rattle.std.proofs.lemmas.List.{length-append}
-use Rattle.jimple_tree.specs.Bodies.{HasBody, IsWithin, stmts_of, all_stmts}
+use Rattle.jimple_tree.specs.Bodies.{IsWithin, stmts_of, all_stmts}
 use Rattle.jimple_tree.specs.WellFormed.{AreDistinct, MethodFits, method_key, field_key}
 use Rattle.jimple_tree.specs.declared.tree.Class.{Class}
 use Rattle.jimple_tree.specs.declared.tree.JType.{JType}
@@ -32,7 +32,7 @@ no_longer test (x ∷ xs) = by_test (test x) (no_longer test xs) where
 
 -- a method with a body of three statements
 abbrev pub IsSmall : Method → Type 0
-IsSmall m = MethodFits m × HasBody m × (length (stmts_of m) ≡ 3)
+IsSmall m = MethodFits m × (length (stmts_of m) ≡ 3)
 
 pub two_methods : (c : Class) (first second : Method) → length c.extends ≤ 1 → c.fields ≡ [] → c.methods ≡ first ∷ second ∷ []
     → IsSmall first → IsSmall second → length first.name < length second.name → IsWithin c
@@ -48,5 +48,5 @@ two_methods c first second extends fields methods f s names = record {
       let e : length (all_stmts c.methods) ≡ length (stmts_of first ++ (stmts_of second ++ [])) = ap (λ (ms : List Method). length (all_stmts ms)) methods in
       let one = length-append (stmts_of first) (stmts_of second ++ []) in
       let two = length-append (stmts_of second) [] in
-      omega (arith, e, one, two, f.2, s.2);
+      omega (arith, e, one, two, f.1, s.1);
 }

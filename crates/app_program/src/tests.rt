@@ -1,6 +1,6 @@
 // The successors of a body that jumps, a class of two methods as a program, and an entry that it lacks.
 ghost use Rattle.std.specs.Prelude.{◌≡◌, ◌<◌, ◌≤◌, [], length, IfOk};
-ghost use Rattle.jimple_tree.specs.Bodies.{HasBody, IsWithin, stmts_of};
+ghost use Rattle.jimple_tree.specs.Bodies.{IsWithin, stmts_of};
 ghost use Rattle.jimple_tree.specs.WellFormed.{MethodFits, StmtFits};
 ghost use Rattle.jimple_tree.specs.declared.tree.Body.{Body};
 
@@ -114,7 +114,7 @@ fn method(
     requires few { length params ≤ 255 }
     requires first { (b : Body) → 0 < length b.locals → StmtFits b first }
     requires second { (b : Body) → 0 < length b.locals → StmtFits b second }
-    ensures fits { IfOk result (λ m. MethodFits m × HasBody m × (length (stmts_of m) ≡ 3)) }
+    ensures fits { IfOk result (λ m. MethodFits m × (length (stmts_of m) ≡ 3)) }
     ensures name { IfOk result (λ m. m.name ≡ of.now) }
 {
     let local = Local {
@@ -141,8 +141,8 @@ fn method(
 
 // The class `S`, which extends `Base`, of these methods.
 fn class(alloc: Global, first: Method, second: Method) -> Result<Class, AllocError>
-    requires first { MethodFits first × HasBody first × (length (stmts_of first) ≡ 3) }
-    requires second { MethodFits second × HasBody second × (length (stmts_of second) ≡ 3) }
+    requires first { MethodFits first × (length (stmts_of first) ≡ 3) }
+    requires second { MethodFits second × (length (stmts_of second) ≡ 3) }
     requires names { length first.name < length second.name }
     ensures { IfOk result (λ c. IsWithin c) }
 {
@@ -163,7 +163,7 @@ fn class(alloc: Global, first: Method, second: Method) -> Result<Class, AllocErr
 
 // A method that has a value from a source and passes it to `helper`.
 fn main_method(alloc: Global) -> Result<Method, AllocError>
-    ensures fits { IfOk result (λ m. MethodFits m × HasBody m × (length (stmts_of m) ≡ 3)) }
+    ensures fits { IfOk result (λ m. MethodFits m × (length (stmts_of m) ≡ 3)) }
     ensures name { IfOk result (λ m. length m.name ≡ 4) }
 {
     let first = source(alloc)?;
@@ -173,7 +173,7 @@ fn main_method(alloc: Global) -> Result<Method, AllocError>
 
 // A method that passes its parameter to a method that is a sink in `Base`.
 fn helper_method(alloc: Global) -> Result<Method, AllocError>
-    ensures fits { IfOk result (λ m. MethodFits m × HasBody m × (length (stmts_of m) ≡ 3)) }
+    ensures fits { IfOk result (λ m. MethodFits m × (length (stmts_of m) ≡ 3)) }
     ensures name { IfOk result (λ m. length m.name ≡ 6) }
 {
     let first = parameter(alloc)?;

@@ -5,4 +5,3 @@ pub mod Ordered
 pub mod Pairs
 pub mod Served
 pub mod Stages
-pub mod Within

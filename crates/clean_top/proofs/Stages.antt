@@ -1,18 +1,21 @@
 -- How stages come out, one after another.
-use Rattle.std.proofs.Common.{◌≡◌, ℕ, Bool, List, [], ◌∷◌, get_or, Result, Ok, Err, IfOk, IfErr, inl, inr, sym, ◌∙◌, ap, subst, refl}
+use Rattle.std.proofs.Common.{◌≡◌, ℕ, Bool, List, [], ◌∷◌, Result, Ok, Err, IfOk, IfErr, inl, inr, sym, ◌∙◌, subst, refl}
 use Rattle.clean_base.specs.declared.fault.InputFault.{InputFault}
 use Rattle.clean_base.specs.declared.fault.Stop.{Stop}
 use Rattle.clean_base.specs.declared.fault.Stop.TheVariants as stops
 use Rattle.clean_base.specs.declared.fault.InputFault.TheVariants.{NotYet}
-use Rattle.jimple_text.specs.Built.{IsBuilt, NotBuilt}
+use Rattle.jimple_text.specs.Settled.{IsRead, Refused}
+use Rattle.jimple_tree.specs.Bodies.{IsWithin}
+use Rattle.jimple_tree.specs.WellFormed.{IsWellFormed}
 use Rattle.jimple_tree.specs.declared.tree.Class.{Class}
 use Rattle.jimple_tree.specs.declared.tree.Sig.{Sig}
 use Rattle.source_sink.specs.Lists.{AreLines, Refuses as Unlisted}
 use Rattle.source_sink.specs.declared.line.Line.{Line}
 use Rattle.app_program.specs.Program.{IsProgram, NoProgram}
 use Rattle.app_program.specs.declared.program.Program.{Program}
-use Rattle.clean_top.specs.Meaning.{App, read, lines, entered, texts, IsReport}
-use Rattle.clean_top.specs.Texts.{as_text, Unsolved, Reported, Stopped}
+use Rattle.clean_top.specs.Meaning.{App, read, solved, lines, entered, texts, IsReport}
+use Rattle.clean_top.specs.Solved.{IsSolved}
+use Rattle.clean_top.specs.Texts.{as_text, Ends, Unsolved, Reported, Stopped}
 use Rattle.clean_top.specs.Stage.{Stage, Settles, ◌>>=◌}
 use Rattle.clean_top.specs.declared.text.TextStop.{TextStop}
 use Rattle.clean_top.specs.declared.text.TextStop.TheVariants.{Fault, EdgeLimit, OutOfMemory}
@@ -25,10 +28,6 @@ if_ok (Err e) P Q so is = tt
 pub if_err : {T E : Type 0} (r : Result T E) (P Q : E → Type 0) → ((e : E) → P e → Q e) → IfErr r P → IfErr r Q
 if_err (Ok t) P Q so is = tt
 if_err (Err e) P Q so is = so e is
-
--- the first item of a list that has one
-pub only_item : {X : Type 0} (xs ys : List X) (x y : X) → ys ≡ xs → xs ≡ y ∷ [] → x ≡ get_or ys 0 x → xs ≡ x ∷ []
-only_item {X} xs ys x y same one is = one ∙ ap (λ (z : X). z ∷ []) (sym (subst (λ (zs : List X). x ≡ get_or zs 0 x) (same ∙ one) is))
 
 -- behind a stage that gives a value, the next one decides
 pub settles_next : {A B : Type 0} (s : Stage A) (t : A → Stage B) (a : A) → Settles s (Ok a) → (r : Result B InputFault) → Settles (t a) r → Settles (s >>= t) r
@@ -68,21 +67,32 @@ module _ {A : Type 0} (s : Stage A) (t : A → Stage App) (a : A) (first : Settl
   stopped_next OutOfMemory stopped = tt
 
 module _ (file : ℕ) (bytes : List ℕ) where
-  pub class_read : (cs : List Class) (class : Class) → cs ≡ class ∷ [] → IsBuilt bytes cs → ((ds : List Class) → IsBuilt bytes ds → ds ≡ cs) → Settles (read file bytes) (Ok class)
-  class_read cs class one built only = (
-    subst (IsBuilt bytes) one built,
-    (λ other is. let e : other ∷ [] ≡ class ∷ [] = only (other ∷ []) is ∙ one in cc),
-    (λ f refuses. refuses.0 cs built),
-  )
+  pub classes_read : (cs : List Class) → IsRead file bytes cs → Settles (read file bytes) (Ok cs)
+  classes_read cs h = (h.reads, h.only, h.no_fault)
 
-  pub class_refused : (f : InputFault) → f ≡ NotYet file → ((ds : List Class) → IsBuilt bytes ds → ⊥) → Settles (read file bytes) (Err f)
-  class_refused f is none = ((none, is), (λ g refuses. refuses.1 ∙ sym is), (λ class built. none (class ∷ []) built))
+  pub classes_end : (stop : Stop) → Refused file bytes stop → Ends (read file bytes) stop
+  classes_end (stops.Fault f) h = (h.is, h.only, h.no_classes)
+  classes_end stops.OutOfMemory h = tt
 
   pub lines_read : (ls : List Line) → AreLines ls bytes → ((ms : List Line) → AreLines ms bytes → ms ≡ ls) → Settles (lines file bytes) (Ok ls)
   lines_read ls are only = (are, only, (λ f refuses. refuses.0 ls are))
 
   pub lines_refused : (f : InputFault) → f ≡ NotYet file → ((ms : List Line) → AreLines ms bytes → ⊥) → Settles (lines file bytes) (Err f)
   lines_refused f is none = ((none, is), (λ g refuses. refuses.1 ∙ sym is), none)
+
+module _ (file : ℕ) (cs : List Class) where
+  pub is_solved_class : (c : Class) → cs ≡ c ∷ [] → IsSolved c → Settles (solved file cs) (Ok c)
+  is_solved_class c one is = (
+    (one, is),
+    (λ d gives. let e : d ∷ [] ≡ c ∷ [] = sym gives.0 ∙ one in cc),
+    (λ f refuses. refuses.0 c one is),
+  )
+
+  pub is_not_solved : ((c : Class) → cs ≡ c ∷ [] → IsSolved c → ⊥) → Settles (solved file cs) (Err (NotYet file))
+  is_not_solved none = ((none, refl), (λ g refuses. refuses.1), (λ c gives. none c gives.0 gives.1))
+
+pub is_within : (c : Class) → IsWellFormed c → IsSolved c → IsWithin c
+is_within c formed is = record { well_formed = formed; methods = is.methods; statements = is.statements }
 
 module _ (class : Class) (ls : List Line) (entry : Sig) where
   pub entry_stops : (stop : Stop) → NoProgram class entry stop → Stopped (entered class ls entry) (as_text stop)
@@ -106,24 +116,36 @@ module _ (class : Class) (ls : List Line) (entry : Sig) where
     program_stopped OutOfMemory over = tt
 
 module _ (entry : Sig) (class list : List ℕ) where
-  pub class_stops : (stop : Stop) → NotBuilt 0 class stop → Stopped (texts entry class list) (as_text stop)
-  class_stops (stops.Fault f) refused = settles_stop (read 0 class) (λ c. lines 1 list >>= λ ls. entered c ls entry) f (class_refused 0 class f refused.0 refused.1)
-  class_stops stops.OutOfMemory refused = tt
+  -- what comes behind the classes, and behind the one class
+  abbrev behind_one : Class → Stage App
+  behind_one c = lines 1 list >>= λ ls. entered c ls entry
 
-  module _ (cs : List Class) (c : Class) (one : cs ≡ c ∷ []) (built : IsBuilt class cs) (only : (ds : List Class) → IsBuilt class ds → ds ≡ cs) where
-    pub list_stops : (stop : Stop) → Unlisted list 1 stop → Stopped (texts entry class list) (as_text stop)
-    list_stops (stops.Fault f) refused =
-        settles_next (read 0 class) (λ d. lines 1 list >>= λ ls. entered d ls entry) c (class_read 0 class cs c one built only) (Err f)
-        (settles_stop (lines 1 list) (λ ls. entered c ls entry) f (lines_refused 1 list f refused.0 refused.1))
-    list_stops stops.OutOfMemory refused = tt
+  abbrev behind : List Class → Stage App
+  behind cs = solved 0 cs >>= behind_one
 
-    module _ (ls : List Line) (are : AreLines ls list) (others : (ms : List Line) → AreLines ms list → ms ≡ ls) where
-      pub both_reported : (text : List ℕ) (leaky : Bool) → Reported (entered c ls entry) text leaky → Reported (texts entry class list) text leaky
-      both_reported text leaky r =
-          reported_next (read 0 class) (λ d. lines 1 list >>= λ ls. entered d ls entry) c (class_read 0 class cs c one built only) text leaky
-          (reported_next (lines 1 list) (λ ls. entered c ls entry) ls (lines_read 1 list ls are others) text leaky r)
+  pub classes_stop : (stop : Stop) → Ends (read 0 class) stop → Stopped (texts entry class list) (as_text stop)
+  classes_stop (stops.Fault f) ends = settles_stop (read 0 class) behind f ends
+  classes_stop stops.OutOfMemory ends = tt
 
-      pub both_stopped : (stop : TextStop) → Stopped (entered c ls entry) stop → Stopped (texts entry class list) stop
-      both_stopped stop r =
-          stopped_next (read 0 class) (λ d. lines 1 list >>= λ ls. entered d ls entry) c (class_read 0 class cs c one built only) stop
-          (stopped_next (lines 1 list) (λ ls. entered c ls entry) ls (lines_read 1 list ls are others) stop r)
+  module _ (cs : List Class) (read_so : Settles (read 0 class) (Ok cs)) where
+    pub class_stops : (stop : Stop) → Ends (solved 0 cs) stop → Stopped (texts entry class list) (as_text stop)
+    class_stops (stops.Fault f) ends = settles_next (read 0 class) behind cs read_so (Err f) (settles_stop (solved 0 cs) behind_one f ends)
+    class_stops stops.OutOfMemory ends = tt
+
+    module _ (c : Class) (solved_so : Settles (solved 0 cs) (Ok c)) where
+      pub list_stops : (stop : Stop) → Unlisted list 1 stop → Stopped (texts entry class list) (as_text stop)
+      list_stops (stops.Fault f) refused =
+          settles_next (read 0 class) behind cs read_so (Err f) (settles_next (solved 0 cs) behind_one c solved_so (Err f)
+          (settles_stop (lines 1 list) (λ ls. entered c ls entry) f (lines_refused 1 list f refused.0 refused.1)))
+      list_stops stops.OutOfMemory refused = tt
+
+      module _ (ls : List Line) (are : AreLines ls list) (others : (ms : List Line) → AreLines ms list → ms ≡ ls) where
+        pub all_reported : (text : List ℕ) (leaky : Bool) → Reported (entered c ls entry) text leaky → Reported (texts entry class list) text leaky
+        all_reported text leaky r =
+            reported_next (read 0 class) behind cs read_so text leaky (reported_next (solved 0 cs) behind_one c solved_so text leaky
+            (reported_next (lines 1 list) (λ ls. entered c ls entry) ls (lines_read 1 list ls are others) text leaky r))
+
+        pub all_stopped : (stop : TextStop) → Stopped (entered c ls entry) stop → Stopped (texts entry class list) stop
+        all_stopped stop r =
+            stopped_next (read 0 class) behind cs read_so stop (stopped_next (solved 0 cs) behind_one c solved_so stop
+            (stopped_next (lines 1 list) (λ ls. entered c ls entry) ls (lines_read 1 list ls are others) stop r))

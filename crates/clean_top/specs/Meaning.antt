@@ -9,7 +9,7 @@ use Rattle.ifds_model.specs.declared.node.Leak.{Leak}
 use Rattle.core_driver.specs.More.{HasMoreThan}
 use Rattle.taint_problem.specs.Machine.{machine}
 use Rattle.taint_problem.specs.declared.fact.Fact.{Fact}
-use Rattle.jimple_text.specs.Built.{IsBuilt}
+use Rattle.jimple_text.specs.Reads.{Reads, IsFault}
 use Rattle.jimple_tree.specs.declared.tree.Class.{Class}
 use Rattle.jimple_tree.specs.declared.tree.Sig.{Sig}
 use Rattle.source_sink.specs.Lists.{AreLines}
@@ -18,6 +18,7 @@ use Rattle.app_program.specs.Calls.{IsMethod}
 use Rattle.app_program.specs.Program.{IsProgram}
 use Rattle.app_program.specs.declared.program.Program.{Program}
 use Rattle.clean_top.specs.Report.{Reports}
+use Rattle.clean_top.specs.Solved.{IsSolved}
 use Rattle.clean_top.specs.Stage.{Stage, ◌>>=◌}
 use Rattle.clean_top.specs.Words.{Asked}
 
@@ -44,11 +45,18 @@ fits file bytes room = record {
   gives = λ done. length bytes ≤ room;
 }
 
--- a class file has the built form, with one class
-abbrev pub read : ℕ → List ℕ → Stage Class
+-- the classes of a class file
+abbrev pub read : ℕ → List ℕ → Stage (List Class)
 read file bytes = record {
-  refuses = λ f. ((cs : List Class) → IsBuilt bytes cs → ⊥) × (f ≡ NotYet file);
-  gives = λ class. IsBuilt bytes (class ∷ []);
+  refuses = λ f. IsFault file bytes f;
+  gives = λ cs. Reads bytes cs;
+}
+
+-- the one class of a class file, on which the solver works so far
+abbrev pub solved : ℕ → List Class → Stage Class
+solved file cs = record {
+  refuses = λ f. ((c : Class) → cs ≡ c ∷ [] → IsSolved c → ⊥) × (f ≡ NotYet file);
+  gives = λ c. (cs ≡ c ∷ []) × IsSolved c;
 }
 
 -- a list has the built form
@@ -77,7 +85,8 @@ entered class ls entry = record {
 -- the program of a class text and a list text
 abbrev pub texts : Sig → List ℕ → List ℕ → Stage App
 texts entry class list =
-    read 0 class >>= λ c.
+    read 0 class >>= λ cs.
+    solved 0 cs >>= λ c.
     lines 1 list >>= λ ls.
     entered c ls entry
 

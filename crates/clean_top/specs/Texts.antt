@@ -24,6 +24,11 @@ Unsolved app (Fault f) = ⊥
 Unsolved app (EdgeLimit found) = IsOver app × (found ≡ edge_room + 1)
 Unsolved app OutOfMemory = Unit {0}
 
+-- why a stage gives no value: it has this fault and no other, or memory ran out
+abbrev pub Ends : {A : Type 0} → Stage A → Stop → Type 0
+Ends {A} stage (stops.Fault f) = Settles {A = A} stage (Err f)
+Ends stage stops.OutOfMemory = Unit {0}
+
 module _ (stage : Stage App) where
   -- the stage gives a program with this report, and no other program
   pub record Reported (text : List ℕ) (leaky : Bool) : Type 0 where

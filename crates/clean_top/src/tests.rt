@@ -157,9 +157,24 @@ fn worked_rows(rt: HostRuntime) -> Result<(), Fail> {
             "",
             1,
         ),
-        ("throw 1; return;", LIST, "<A: void m()>", "", unbuilt, 3),
         (
             "throw 1; return;",
+            LIST,
+            "<A: void m()>",
+            "edges 1\ncontexts 1\n",
+            "",
+            0,
+        ),
+        (
+            "<A: int f> = 0; return;",
+            LIST,
+            "<A: void m()>",
+            "",
+            unbuilt,
+            3,
+        ),
+        (
+            "<A: int f> = 0; return;",
             bad_list,
             "<A: void n()>",
             "",
@@ -232,6 +247,23 @@ fn calls_and_returns(rt: HostRuntime) -> Result<(), Fail> {
             "leak <A: void m()>#1 from <A: void m()>#0 at i0\nedges 5\ncontexts 1\n",
         ),
     ];
+    for (supertype, methods, out) in cases {
+        let class = class_with(rt.alloc(), supertype, methods)?;
+        let code = if out.starts_with("leak") { 1 } else { 0 };
+        expect_class(&rt, rt.alloc(), class.as_str(), out, "", code)?;
+    }
+    Ok(())
+}
+
+// What a class file gives, entered at `m`.
+fn expect_class(
+    rt: &impl Abort,
+    alloc: Global,
+    class: &str,
+    out: &str,
+    err: &str,
+    code: u8,
+) -> Result<(), Fail> {
     let words = [
         "serial",
         "--entry",
@@ -240,12 +272,83 @@ fn calls_and_returns(rt: HostRuntime) -> Result<(), Fail> {
         "L",
         "A.jimple",
     ];
-    for (supertype, methods, out) in cases {
-        let class = class_with(rt.alloc(), supertype, methods)?;
-        let shelf = shelf_of(rt.alloc(), class.as_str(), LIST.as_bytes(), &[])?;
-        let served = serve(rt.alloc(), &words, shelf, 4096, 4096)?;
-        let code = if out.starts_with("leak") { 1 } else { 0 };
-        expect(&rt, &served, out, "", code);
+    let shelf = shelf_of(alloc, class, LIST.as_bytes(), &[])?;
+    let served = serve(alloc, &words, shelf, 4096, 4096)?;
+    expect(rt, &served, out, err, code);
+    Ok(())
+}
+
+#[test]
+fn jumps_and_handlers(rt: HostRuntime) -> Result<(), Fail> {
+    // The methods, and the output. The numbers of edges are counted by hand.
+    let cases = [
+        // Mutual recursion: in `m` 9, in `f` 5 and 10, in `g` 3 and 6.
+        (
+            "public static void m() { int i0, i1; i0 = staticinvoke <S: int src()>(); i1 = staticinvoke <A: int f(int)>(i0); staticinvoke <S: void snk(int)>(i1); return; }
+             public static int f(int) { int x, y; x := @parameter0: int; if x == 0 goto end; y = staticinvoke <A: int g(int)>(x); return y; end: return x; }
+             public static int g(int) { int x, y; x := @parameter0: int; y = staticinvoke <A: int f(int)>(x); return y; }",
+            "leak <A: void m()>#2 from <A: void m()>#0 at i1\nedges 33\ncontexts 5\n",
+        ),
+        // A handler: Zero 6, i0 5, i1 4.
+        (
+            "public static void m() { int i0, i1; E r0; i0 = staticinvoke <S: int src()>(); a: i1 = i0; b: return; c: r0 := @caughtexception; staticinvoke <S: void snk(int)>(i0); return; catch E from a to b with c; }",
+            "leak <A: void m()>#4 from <A: void m()>#0 at i0\nedges 15\ncontexts 1\n",
+        ),
+        // A switch past a kill: Zero 5, i0 4.
+        (
+            "public static void m() { int i0; i0 = staticinvoke <S: int src()>(); lookupswitch(i0) { case 1: goto one; default: goto all; } one: i0 = 0; all: staticinvoke <S: void snk(int)>(i0); return; }",
+            "leak <A: void m()>#3 from <A: void m()>#0 at i0\nedges 9\ncontexts 1\n",
+        ),
+    ];
+    for (methods, out) in cases {
+        let class = class_with(rt.alloc(), "java.lang.Object", methods)?;
+        expect_class(&rt, rt.alloc(), class.as_str(), out, "", 1)?;
+    }
+    Ok(())
+}
+
+#[test]
+fn faults_of_class_text(rt: HostRuntime) -> Result<(), Fail> {
+    // The class file, and the line on the error sink.
+    let cases = [
+        (
+            "class A { static void m() { staticinvoke <S: void s(",
+            "clean: A.jimple: syntax at 52\n",
+        ),
+        ("class A ~", "clean: A.jimple: byte not allowed at 8\n"),
+        ("class A { /* ", "clean: A.jimple: text not ended at 10\n"),
+        (
+            "class A { int f; int f; }",
+            "clean: A.jimple: name given twice at 21\n",
+        ),
+        (
+            "class A { static void m() { goto x; } }",
+            "clean: A.jimple: unknown label at 33\n",
+        ),
+        (
+            "class A { static void m() { x = 0; } }",
+            "clean: A.jimple: unknown local at 28\n",
+        ),
+        (
+            "class A { static void m() { dynamicinvoke \"f\" <int ()>(); } }",
+            "clean: A.jimple: dynamicinvoke not supported at 28\n",
+        ),
+        (
+            "class A { void m() { throw methodtype: 1; } }",
+            "clean: A.jimple: methodhandle not supported at 27\n",
+        ),
+        (
+            "class A { void m() { int i; i := @parameter255: int; } }",
+            "clean: A.jimple: too many names at 34\n",
+        ),
+        (
+            "class A { } class A { }",
+            "clean: A.jimple: form not built yet\n",
+        ),
+        ("class A { void m(); }", "clean: entry method not found\n"),
+    ];
+    for (class, err) in cases {
+        expect_class(&rt, rt.alloc(), class, "", err, 3)?;
     }
     Ok(())
 }

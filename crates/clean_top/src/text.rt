@@ -1,11 +1,14 @@
 // From the texts of a class file and a list to the report.
-ghost use Rattle.std.specs.Prelude.{◌≡◌, ◌<◌, ◌^◌, IfOk, IfErr, length};
+ghost use Rattle.std.specs.Prelude.{◌≡◌, ◌<◌, ◌^◌, All, IfOk, IfErr, Ok, length};
 ghost use Rattle.jimple_tree.specs.Bodies.{IsWithin};
+ghost use Rattle.jimple_tree.specs.WellFormed.{IsWellFormed};
 ghost use Rattle.taint_problem.specs.Code.{IsWhole};
-ghost use Rattle.clean_top.specs.Meaning.{IsReport, entered, texts};
-ghost use Rattle.clean_top.specs.Texts.{Unsolved, Reported, Stopped};
+ghost use Rattle.clean_top.specs.Meaning.{IsReport, entered, solved, texts};
+ghost use Rattle.clean_top.specs.Texts.{Unsolved, Ends, Reported, Stopped};
+ghost use Rattle.clean_top.specs.Stage.{Settles};
 
 use crate::report::{Report, make_report};
+use crate::solved::is_solved;
 use app_program::{Program, assemble};
 use clean_base::{InputFault, Stop};
 use core_driver::finish;
@@ -108,6 +111,23 @@ fn class_report(
     report_of(alloc, class, &program)
 }
 
+// The one class of a class file, where the solver works on it.
+fn solved_class<'a>(alloc: Global, classes: &'a [Class], file: u32) -> Result<&'a Class, Stop>
+    requires { All IsWellFormed classes.now }
+    ensures ok { IfOk result (λ c. Settles (solved file classes.now) (Ok c.now)) }
+    ensures within { IfOk result (λ c. IsWithin c.now) }
+    ensures err { IfErr result (Ends (solved file classes.now)) }
+{
+    let [class] = classes else {
+        return Err(Stop::Fault(InputFault::NotYet { file }));
+    };
+    match is_solved(alloc, class) {
+        Ok(true) => Ok(class),
+        Ok(false) => Err(Stop::Fault(InputFault::NotYet { file })),
+        Err(AllocError) => Err(Stop::OutOfMemory),
+    }
+}
+
 /// The report of the program that the texts give, entered at a method.
 pub fn read_and_report(
     alloc: Global,
@@ -120,9 +140,7 @@ pub fn read_and_report(
     ensures err { IfErr result (Stopped (texts entry.now class.now list.now)) }
 {
     let classes = read_classes(alloc, class, 0)?;
+    let class = solved_class(alloc, classes.as_slice(), 0)?;
     let lists = read_lists(alloc, list, 1)?;
-    let [class] = classes.as_slice() else {
-        unreachable!()
-    };
     class_report(alloc, class, &lists, entry)
 }

@@ -3,7 +3,7 @@ use Rattle.std.proofs.Common.{◌≡◌, ℕ, zero, suc, pred, ◌-◌, ◌<◌,
 use Rattle.jimple_grammar.specs.declared.lexeme.Lexeme.{Lexeme}
 use Rattle.jimple_grammar.specs.declared.cursor.ParseStop.{ParseStop}
 use Rattle.jimple_grammar.specs.declared.cursor.ParseStop.TheVariants as stops
-use Rattle.jimple_grammar.specs.Gives.{Fails}
+use Rattle.jimple_grammar.specs.Gives.{reason_number, Fails}
 use Rattle.jimple_grammar.specs.Grammar.{Look, Grammar, many}
 use Rattle.jimple_grammar.specs.Reading.{sees_one, Read, ◌>>=◌, may_be_empty, repeat, reading}
 use Rattle.jimple_grammar.proofs.Shrink.{Shorter, shrinks}
@@ -57,7 +57,7 @@ module _ {S A B C : Type 0} (f : List A → B → C) (look : Look) (a : S → Gr
   pub failed : (pieces : List A) (s : S) (ts : List Lexeme) (e : ParseStop) → Underway f look a step b total pieces s ts → sees_one look ts ≡ true → sees_one look [] ≡ false → Fails e (reading (a s) ts) → Fails e total
   failed pieces s ts stops.OutOfMemory o sees n h = tt
   failed pieces s ts (stops.Syntax at) o sees n h = (h.0, halted pieces s ts (h.0, 0) o sees h.1 (some_left look ts n sees), h.2)
-  failed pieces s ts (stops.Refused why at) o sees n h = (h.0, halted pieces s ts (h.0, suc why) o sees h.1 (some_left look ts n sees), h.2)
+  failed pieces s ts (stops.Refused why at) o sees n h = (h.0, halted pieces s ts (h.0, suc (reason_number why)) o sees h.1 (some_left look ts n sees), h.2)
 
   finished : (pieces : List A) (s : S) (ts : List Lexeme) → Underway f look a step b total pieces s ts → sees_one look ts ≡ false → total ≡ last f pieces (reading b ts)
   finished pieces s ts o sees = close o.fuel pieces s ts sees o.is

@@ -3,7 +3,7 @@ use Rattle.std.proofs.Common.{Result, ◌≡◌, ℕ, zero, suc, ◌<◌, ◌≤
 use Rattle.jimple_grammar.specs.declared.lexeme.Lexeme.{Lexeme}
 use Rattle.jimple_grammar.specs.declared.cursor.ParseStop.{ParseStop}
 use Rattle.jimple_grammar.specs.declared.cursor.ParseStop.TheVariants as stops
-use Rattle.jimple_grammar.specs.Gives.{Fails, Gives, GivesMoreWith}
+use Rattle.jimple_grammar.specs.Gives.{reason_number, Fails, Gives, GivesMoreWith}
 use Rattle.jimple_grammar.specs.Grammar.{Look, Grammar, plain, both, ends, times}
 use Rattle.jimple_grammar.specs.Reading.{sees_one, Read, ◌>>=◌, may_be_empty, repeat, reading}
 use Rattle.jimple_grammar.proofs.Shrink.{Shorter, shrinks}
@@ -78,7 +78,7 @@ module _ {A B C : Type 0} (f : List A → B → C) (look : Look) (a : Grammar A)
   pub failed : (pieces : List A) (ts : List Lexeme) (e : ParseStop) → Onward f look a b total pieces ts → sees_one look ts ≡ true → sees_one look [] ≡ false → Fails e (reading a ts) → Fails e total
   failed pieces ts stops.OutOfMemory o s n h = tt
   failed pieces ts (stops.Syntax at) o s n h = (h.0, halted f look a b total pieces ts (h.0, 0) o s h.1 (some_left look ts n s), h.2)
-  failed pieces ts (stops.Refused why at) o s n h = (h.0, halted f look a b total pieces ts (h.0, suc why) o s h.1 (some_left look ts n s), h.2)
+  failed pieces ts (stops.Refused why at) o s n h = (h.0, halted f look a b total pieces ts (h.0, suc (reason_number why)) o s h.1 (some_left look ts n s), h.2)
 
 abbrev pub behind : {A : Type 0} → List A → Read (List A) → Read (List A)
 behind pieces (Ok x) = Ok (pieces ++ x.0, x.1)

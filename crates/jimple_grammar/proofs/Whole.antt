@@ -1,11 +1,11 @@
 -- A whole list of tokens: its value, or the place where it stops.
-use Rattle.std.proofs.Common.{◌≡◌, ℕ, suc, List, [], ◌∷◌, Ok, Err, Some, refl, sym, ◌∙◌, ap, subst, append-nil}
+use Rattle.std.proofs.Common.{◌≡◌, ℕ, suc, List, [], ◌∷◌, Ok, Err, refl, sym, ◌∙◌, ap, subst, append-nil}
 use Rattle.jimple_grammar.specs.declared.lexeme.Lexeme.{Lexeme}
 use Rattle.jimple_grammar.specs.Grammar.{Grammar, Spells, Begins, BeginsBy}
 use Rattle.jimple_grammar.specs.Reading.{Read, reading}
 use Rattle.jimple_grammar.specs.declared.cursor.ParseStop.{ParseStop}
 use Rattle.jimple_grammar.specs.declared.cursor.ParseStop.TheVariants as stops
-use Rattle.jimple_grammar.specs.Gives.{Fails}
+use Rattle.jimple_grammar.specs.Gives.{Fails, reason_number}
 use Rattle.jimple_grammar.specs.Stops.{StopsAt, Reaches, Refused, Told}
 use Rattle.jimple_grammar.proofs.Shrink.{ok_is}
 use Rattle.jimple_grammar.proofs.Starts.{laws}
@@ -50,10 +50,7 @@ told_ok g s ts v h = record { found = found g s ts v h; only = λ w k. one_value
 pub told_err : {A : Type 0} (g : Grammar A) → Sure g [] → (ts : List Lexeme) (e : ParseStop) → Fails e (reading g ts) → Told g ts (Err e)
 told_err g s ts stops.OutOfMemory h = tt
 told_err g s ts (stops.Syntax at) h = (h.0, stops_in g s ts h.0 0 h.1, h.2)
-told_err g s ts (stops.Refused why at) h = (h.0, stops_in g s ts h.0 (suc why) h.1, h.2)
-
-pub told_behind : {A : Type 0} (g : Grammar A) → Sure g [] → (ts : List Lexeme) (v : A) (t : Lexeme) (left : List Lexeme) → reading g ts ≡ Ok (v, t ∷ left) → Told g ts (Err (stops.Syntax (Some t.from)))
-told_behind g s ts v t left e = (t ∷ left, stops_behind g s ts v t left e, refl)
+told_err g s ts (stops.Refused why at) h = (h.0, stops_in g s ts h.0 (suc (reason_number why)) h.1, h.2)
 
 -- what doesn't stop at the end of the tokens isn't spelled by all of them
 pub none_behind : {A : Type 0} (g : Grammar A) → Sure g [] → (ts : List Lexeme) (v : A) (left : List Lexeme) → reading g ts ≡ Ok (v, left) → (left ≡ [] → ⊥) → (w : A) → Spells g ts w → ⊥

@@ -1,19 +1,22 @@
 -- What a function of the parser gives, by what reading its form gives.
-use Rattle.std.specs.Prelude.{◌≡◌, ℕ, suc, List, [], ◌∷◌, ◌++◌, Option, Some, None, Result, Ok, Err}
+use Rattle.std.specs.Prelude.{◌≡◌, ℕ, suc, List, ◌++◌, length, Result, Ok, Err}
 use Rattle.jimple_grammar.specs.declared.lexeme.Lexeme.{Lexeme}
 use Rattle.jimple_grammar.specs.declared.cursor.ParseStop.{ParseStop}
 use Rattle.jimple_grammar.specs.declared.cursor.ParseStop.TheVariants as stops
+use Rattle.jimple_grammar.specs.declared.cursor.Reason.{Reason}
+use Rattle.jimple_grammar.specs.declared.cursor.Reason.TheVariants as reasons
+use Rattle.jimple_grammar.specs.Forms.{unsupported, too_many, word_before}
 use Rattle.jimple_grammar.specs.Reading.{Read}
 
--- where a stop stands
-abbrev pub place : List Lexeme → Option ℕ
-place [] = None
-place (t ∷ ts) = Some t.from
+abbrev pub reason_number : Reason → ℕ
+reason_number reasons.Unsupported = unsupported
+reason_number reasons.TooMany = too_many
+reason_number reasons.WordBefore = word_before
 
 abbrev pub Fails : {Y : Type 0} → ParseStop → Read Y → Type 0
 Fails stops.OutOfMemory read = Unit {0}
-Fails (stops.Syntax at) read = (left : List Lexeme) × (read ≡ Err (left, 0)) × (at ≡ place left)
-Fails (stops.Refused why at) read = (left : List Lexeme) × (read ≡ Err (left, suc why)) × (at ≡ place left)
+Fails (stops.Syntax count) read = (left : List Lexeme) × (read ≡ Err (left, 0)) × (count ≡ length left)
+Fails (stops.Refused why count) read = (left : List Lexeme) × (read ≡ Err (left, suc (reason_number why))) × (count ≡ length left)
 
 -- the value that is read, seen so, and the tokens left; or why it stops
 abbrev pub Gives : {X Y : Type 0} → (X → Y) → Result X ParseStop → List Lexeme → Read Y → Type 0

@@ -7,3 +7,5 @@ pub mod Forms
 pub mod Stops
 pub mod Kinds
 pub mod Lexemes
+pub mod AsWritten
+pub mod Fits

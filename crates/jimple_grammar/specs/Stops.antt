@@ -1,9 +1,9 @@
 -- Where tokens stop to begin a form.
-use Rattle.std.specs.Prelude.{◌≡◌, ℕ, suc, List, [], ◌∷◌, ◌++◌, Result, Ok, Err}
+use Rattle.std.specs.Prelude.{◌≡◌, ℕ, suc, List, [], ◌∷◌, ◌++◌, length, Result, Ok, Err}
 use Rattle.jimple_grammar.specs.declared.lexeme.Lexeme.{Lexeme}
 use Rattle.jimple_grammar.specs.declared.cursor.ParseStop.{ParseStop}
 use Rattle.jimple_grammar.specs.declared.cursor.ParseStop.TheVariants as stops
-use Rattle.jimple_grammar.specs.Gives.{place}
+use Rattle.jimple_grammar.specs.Gives.{reason_number}
 use Rattle.jimple_grammar.specs.Grammar.{Grammar, Spells, Begins, BeginsBy}
 
 -- The front begins the form; with the first of the tokens left it doesn't. Where no token is left, the front isn't the form either.
@@ -29,5 +29,10 @@ pub record StopsAt {A : Type 0} (g : Grammar A) (ts left : List Lexeme) (why : �
 abbrev pub Told : {A : Type 0} → Grammar A → List Lexeme → Result A ParseStop → Type 0
 Told {A} g ts (Ok v) = record { found : Spells g ts v; only : (w : A) → Spells g ts w → w ≡ v }
 Told g ts (Err stops.OutOfMemory) = Unit {0}
-Told g ts (Err (stops.Syntax at)) = (left : List Lexeme) × StopsAt g ts left 0 × (at ≡ place left)
-Told g ts (Err (stops.Refused why at)) = (left : List Lexeme) × StopsAt g ts left (suc why) × (at ≡ place left)
+Told g ts (Err (stops.Syntax count)) = (left : List Lexeme) × StopsAt g ts left 0 × (count ≡ length left)
+Told g ts (Err (stops.Refused why count)) = (left : List Lexeme) × StopsAt g ts left (suc (reason_number why)) × (count ≡ length left)
+
+-- The tokens spell the form, or they stop in one place and for one reason.
+pub record IsSettled {A : Type 0} (g : Grammar A) (ts : List Lexeme) : Type 0 where
+  pub one : (l m : List Lexeme) (v w : ℕ) → StopsAt g ts l v → StopsAt g ts m w → (l ≡ m) × (v ≡ w)
+  pub apart : (x : A) (l : List Lexeme) (v : ℕ) → Spells g ts x → StopsAt g ts l v → ⊥

@@ -2,7 +2,7 @@
 // Lexemes stand below; the readers of forms above.
 ghost use Rattle.std.specs.Prelude.{◌≡◌, ◌==◌, List, [], ◌∷◌, length};
 ghost use Rattle.jimple_grammar.specs.Reading.{sees, sees_one, read_token, read_refused, reading};
-ghost use Rattle.jimple_grammar.specs.Gives.{Gives, place};
+ghost use Rattle.jimple_grammar.specs.Gives.{Gives, reason_number};
 ghost use Rattle.jimple_grammar.specs.Kind.{Kinds};
 ghost use Rattle.jimple_grammar.specs.Words.{names, plain_names, types, words, constants, conditions, operators};
 ghost use Rattle.jimple_grammar.specs.Forms.{sure_types, based_calls, switches, modifier, before_item, before_label, before_length, before_decl, before_modifier, before_class_modifier, before_member, before_class};
@@ -11,14 +11,25 @@ use crate::kind::Kind;
 use crate::lexeme::Lexeme;
 use std::alloc::{AllocError, AllocFailed};
 
-/// Why the parser stops. Each place is the token's first byte, or none at the end of the tokens.
+/// Why a token is refused.
+#[derive(Clone, Copy, Debug, PartialEq, Eq)]
+pub enum Reason {
+    /// It is a word that isn't supported.
+    Unsupported,
+    /// It is a name too many.
+    TooMany,
+    /// It is a colon behind a word that isn't supported.
+    WordBefore,
+}
+
+/// Why the parser stops, with how many of the tokens are left there.
 #[derive(Debug, Drop)]
 pub enum ParseStop {
     OutOfMemory,
     /// The tokens no longer begin the form.
-    Syntax(Option<u32>),
-    /// A token that is refused, for the reason of that number.
-    Refused(u8, Option<u32>),
+    Syntax(usize),
+    /// A token that is refused.
+    Refused(Reason, usize),
 }
 
 impl From<AllocError> for ParseStop {
@@ -43,13 +54,6 @@ impl<T: Drop> From<AllocFailed<T>> for ParseStop {
     }
 }
 
-/// A token is refused: it is a word that isn't supported.
-pub const UNSUPPORTED: u8 = 0;
-/// A token is refused: it is a name too many.
-pub const TOO_MANY: u8 = 1;
-/// A token is refused: it is a colon behind a word that isn't supported.
-pub const WORD_BEFORE: u8 = 2;
-
 /// What is left of the tokens.
 #[derive(Drop)]
 pub struct Cursor<'a> {
@@ -71,14 +75,11 @@ impl<'a> Cursor<'a> {
         self.left.is_empty()
     }
 
-    /// Where the token in front stands.
-    pub fn place(&self) -> Option<u32>
-        ensures { result ≡ place self.now.left.now }
+    /// How many tokens are left.
+    pub fn remaining(&self) -> usize
+        ensures { result ≡ length self.now.left.now }
     {
-        match self.left {
-            [] => None,
-            [token, ..] => Some(token.from),
-        }
+        self.left.len()
     }
 
     /// A token of that kind stands in front.
@@ -291,18 +292,18 @@ impl<'a> Cursor<'a> {
                 self.left = left;
                 Ok(*token)
             }
-            _ => Err(ParseStop::Syntax(self.place())),
+            _ => Err(ParseStop::Syntax(self.remaining())),
         }
     }
 
     /// A token that is refused for that reason stands in front, where it fits, and else none that goes on.
-    pub fn refuse<T: Drop>(&self, reason: u8, fits: bool) -> Result<T, ParseStop>
-        ensures { (ks : Kinds) → fits ≡ sees (ks ∷ []) self.now.left.now → Gives (λ x. x) result self.now.left.now (read_refused reason ks self.now.left.now) }
+    pub fn refuse<T: Drop>(&self, reason: Reason, fits: bool) -> Result<T, ParseStop>
+        ensures { (ks : Kinds) → fits ≡ sees (ks ∷ []) self.now.left.now → Gives (λ x. x) result self.now.left.now (read_refused (reason_number reason) ks self.now.left.now) }
     {
         if fits {
-            Err(ParseStop::Refused(reason, self.place()))
+            Err(ParseStop::Refused(reason, self.remaining()))
         } else {
-            Err(ParseStop::Syntax(self.place()))
+            Err(ParseStop::Syntax(self.remaining()))
         }
     }
 

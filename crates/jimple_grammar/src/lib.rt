@@ -22,5 +22,6 @@ mod read_types;
 mod tests;
 mod tokens;
 
-pub use cursor::ParseStop;
+pub use cursor::{ParseStop, Reason};
 pub use read::read_tokens;
+pub use tokens::kind_of;

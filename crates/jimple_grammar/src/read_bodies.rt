@@ -6,7 +6,7 @@ ghost use Rattle.jimple_grammar.specs.Reading.{reading};
 ghost use Rattle.jimple_grammar.specs.Gives.{Gives, GivesMore};
 ghost use Rattle.jimple_grammar.specs.Forms.{label, behind_name, item, catch, catches, later_items, front_items, stmt, code, code_catches, slot, next_slot, later_slots, slots, decl, block, body};
 
-use crate::cursor::{Cursor, ParseStop, TOO_MANY};
+use crate::cursor::{Cursor, ParseStop, Reason};
 use crate::kind::Kind;
 use crate::lexeme::Lexeme;
 use crate::raw::{RawBody, RawCatch, RawCode, RawDecl, RawItem, RawStmt};
@@ -126,7 +126,7 @@ impl<'a> Cursor<'a> {
         ensures { Gives (λ x. x) result self.new.left.now (reading (slot room) self.old.left.now) }
     {
         if room == 0 {
-            return self.refuse(TOO_MANY, self.sees_name());
+            return self.refuse(Reason::TooMany, self.sees_name());
         }
         self.take_name()
     }

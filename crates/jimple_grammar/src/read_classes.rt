@@ -7,7 +7,7 @@ ghost use Rattle.jimple_grammar.specs.Reading.{reading};
 ghost use Rattle.jimple_grammar.specs.Gives.{Gives, GivesMore};
 ghost use Rattle.jimple_grammar.specs.Forms.{sign, before_member, param_slot, next_param, later_params, heading_params, throws, body_or_none, modifier, member_type, head, method_rest, behind_head, member, implements, extends_one, extends_several, class_heading, interface_heading, heading, members, heading_members, class, file};
 
-use crate::cursor::{Cursor, ParseStop, TOO_MANY};
+use crate::cursor::{Cursor, ParseStop, Reason};
 use crate::kind::Kind;
 use crate::lexeme::Lexeme;
 use crate::raw::{RawBody, RawClass, RawHead, RawHeading, RawMember, RawMethod, RawType};
@@ -24,7 +24,7 @@ impl<'a> Cursor<'a> {
         ensures { Gives (λ x. x) result self.new.left.now (reading (param_slot room) self.old.left.now) }
     {
         if room == 0 {
-            return self.refuse(TOO_MANY, self.sees_type());
+            return self.refuse(Reason::TooMany, self.sees_type());
         }
         self.ty()
     }

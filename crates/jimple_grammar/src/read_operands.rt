@@ -8,7 +8,7 @@ ghost use Rattle.jimple_grammar.specs.Gives.{Gives, GivesMore};
 ghost use Rattle.jimple_grammar.specs.Words.{plain_names, constants};
 ghost use Rattle.jimple_grammar.specs.Forms.{constant, handle, imm, next_imm, args, callee, call};
 
-use crate::cursor::{Cursor, ParseStop, UNSUPPORTED, WORD_BEFORE};
+use crate::cursor::{Cursor, ParseStop, Reason};
 use crate::kind::Kind;
 use crate::raw::{RawCall, RawCallee, RawImm};
 use clean_base::Seq;
@@ -35,7 +35,7 @@ impl<'a> Cursor<'a> {
     {
         let word = self.take(Kind::Handle)?;
         if self.sees(Kind::Colon) {
-            return Err(ParseStop::Refused(WORD_BEFORE, self.place()));
+            return Err(ParseStop::Refused(Reason::WordBefore, self.remaining()));
         }
         Ok(RawImm::Local(word))
     }
@@ -111,7 +111,7 @@ impl<'a> Cursor<'a> {
             });
         }
         let fits = self.sees(Kind::Dynamicinvoke);
-        self.refuse(UNSUPPORTED, fits)
+        self.refuse(Reason::Unsupported, fits)
     }
 
     #[tactic(auto, unfolding(crate::specs::Forms::call))]

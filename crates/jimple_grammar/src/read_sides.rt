@@ -5,7 +5,7 @@ ghost use Rattle.jimple_grammar.specs.Reading.{reading};
 ghost use Rattle.jimple_grammar.specs.Gives.{Gives, GivesMoreWith};
 ghost use Rattle.jimple_grammar.specs.Forms.{element, behind_operand, behind_local, behind_handle, cast, new_array, later_lengths, new_multi, local_rhs, handle_rhs, constant_rhs, new_object, length_of, negated, static_load, called, rhs};
 
-use crate::cursor::{Cursor, ParseStop, WORD_BEFORE};
+use crate::cursor::{Cursor, ParseStop, Reason};
 use crate::kind::Kind;
 use crate::lexeme::Lexeme;
 use crate::raw::{RawImm, RawNewMulti, RawRhs};
@@ -61,7 +61,7 @@ impl<'a> Cursor<'a> {
         ensures { Gives (λ x. x) result self.new.left.now (reading (behind_handle base) self.old.left.now) }
     {
         if self.sees(Kind::Colon) {
-            return Err(ParseStop::Refused(WORD_BEFORE, self.place()));
+            return Err(ParseStop::Refused(Reason::WordBefore, self.remaining()));
         }
         self.behind_local(base)
     }

@@ -6,7 +6,7 @@ ghost use Rattle.jimple_grammar.specs.Reading.{reading, sees};
 ghost use Rattle.jimple_grammar.specs.Gives.{Gives};
 ghost use Rattle.jimple_grammar.specs.Forms.{this_given, param_given, caught_given, given_value, stored, identity, assign, store_field, store_element, local_stmt, store_static, call_stmt, jump, if_stmt, goto_stmt, case, cases, switch_stmt, returned, return_stmt, throw_stmt, nop_stmt, enter_stmt, exit_stmt, word_stmt, stmt};
 
-use crate::cursor::{Cursor, ParseStop, TOO_MANY, UNSUPPORTED};
+use crate::cursor::{Cursor, ParseStop, Reason};
 use crate::kind::Kind;
 use crate::lexeme::Lexeme;
 use crate::raw::{RawCase, RawGiven, RawImm, RawStmt, RawSwitch};
@@ -55,7 +55,7 @@ impl<'a> Cursor<'a> {
             self.caught_given()
         } else {
             let fits = self.sees(Kind::HighParameter);
-            self.refuse(TOO_MANY, fits)
+            self.refuse(Reason::TooMany, fits)
         }
     }
 
@@ -313,7 +313,7 @@ impl<'a> Cursor<'a> {
             self.exit_stmt()
         } else {
             let fits = self.sees_refused_stmt();
-            self.refuse(UNSUPPORTED, fits)
+            self.refuse(Reason::Unsupported, fits)
         }
     }
 

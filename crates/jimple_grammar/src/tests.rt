@@ -1,8 +1,7 @@
 // Texts with how many classes they spell, or with the place of their fault, which the texts bear themselves.
-use crate::cursor::{TOO_MANY, UNSUPPORTED, WORD_BEFORE};
 use crate::tests::Answer::{Classes, Refused, Syntax};
-use crate::{ParseStop, read_tokens};
-use jimple_lex::lex;
+use crate::{ParseStop, Reason, read_tokens};
+use jimple_lex::{Token, lex};
 use std::alloc::{AllocError, Global};
 use std::test::Fail;
 
@@ -14,7 +13,7 @@ enum Answer {
     /// A fault of syntax at the mark.
     Syntax,
     /// A token that is refused for that reason, at the mark.
-    Refused(u8),
+    Refused(Reason),
 }
 
 /// Stands where a text has its fault, and is no part of the text. No token begins with it.
@@ -136,11 +135,11 @@ static BODIES: [(&[u8], Answer); 102] = [
         b"x := @parameter007: int; y := @parameter000000000000000000000000254: int; ",
         Classes(1),
     ),
-    (b"x := @`parameter255: int; ", Refused(TOO_MANY)),
-    (b"x := @`parameter000255: int; ", Refused(TOO_MANY)),
+    (b"x := @`parameter255: int; ", Refused(Reason::TooMany)),
+    (b"x := @`parameter000255: int; ", Refused(Reason::TooMany)),
     (
         b"x := @`parameter99999999999999999999999999: int; ",
-        Refused(TOO_MANY),
+        Refused(Reason::TooMany),
     ),
     (b"parameter255 = parameter7; ", Classes(1)),
     (b"x := @`'parameter255': int; ", Syntax),
@@ -167,14 +166,17 @@ static BODIES: [(&[u8], Answer); 102] = [
     (b"staticinvoke <S: void f()>(`1); ", Syntax),
     (b"staticinvoke `<<init>: void f()>(); ", Syntax),
     (b"virtualinvoke `<S: void f()>(); ", Syntax),
-    (b"x = methodhandle`: \"f\"; ", Refused(WORD_BEFORE)),
-    (b"x = 1 + methodtype`: y; ", Refused(WORD_BEFORE)),
-    (b"return methodhandle`: y; ", Refused(WORD_BEFORE)),
-    (b"if methodhandle`: x == y goto a; ", Refused(WORD_BEFORE)),
-    (b"x[methodtype`: y] = 0; ", Refused(WORD_BEFORE)),
+    (b"x = methodhandle`: \"f\"; ", Refused(Reason::WordBefore)),
+    (b"x = 1 + methodtype`: y; ", Refused(Reason::WordBefore)),
+    (b"return methodhandle`: y; ", Refused(Reason::WordBefore)),
+    (
+        b"if methodhandle`: x == y goto a; ",
+        Refused(Reason::WordBefore),
+    ),
+    (b"x[methodtype`: y] = 0; ", Refused(Reason::WordBefore)),
     (
         b"staticinvoke <S: void f(int)>(methodhandle`: y); ",
-        Refused(WORD_BEFORE),
+        Refused(Reason::WordBefore),
     ),
     (b"staticinvoke <S: void f()>(`methodhandle: y); ", Syntax),
     (b"methodhandle: nop; goto methodhandle; ", Classes(1)),
@@ -187,13 +189,16 @@ static BODIES: [(&[u8], Answer); 102] = [
     (b"x = new methodhandle`: y; ", Syntax),
     (b"x = 'methodhandle'`: y; ", Syntax),
     (b"x = y`: z; ", Syntax),
-    (b"`dynamicinvoke \"f\" <int ()>(); ", Refused(UNSUPPORTED)),
+    (
+        b"`dynamicinvoke \"f\" <int ()>(); ",
+        Refused(Reason::Unsupported),
+    ),
     (
         b"x = `dynamicinvoke \"f\" <int ()>(); ",
-        Refused(UNSUPPORTED),
+        Refused(Reason::Unsupported),
     ),
-    (b"x: `ret y; ", Refused(UNSUPPORTED)),
-    (b"nop; `breakpoint; ", Refused(UNSUPPORTED)),
+    (b"x: `ret y; ", Refused(Reason::Unsupported)),
+    (b"nop; `breakpoint; ", Refused(Reason::Unsupported)),
     (b"'ret': nop; goto 'ret'; ", Classes(1)),
     (b"goto `ret; ", Syntax),
     (b"x = `breakpoint; ", Syntax),
@@ -277,14 +282,14 @@ static LIMITS: [Long; 9] = [
         piece: b",int",
         count: 254,
         foot: b",`int); }",
-        answer: Refused(TOO_MANY),
+        answer: Refused(Reason::TooMany),
     },
     Long {
         head: b"class A { void m(int",
         piece: b",int",
         count: 254,
         foot: b",`T[]); }",
-        answer: Refused(TOO_MANY),
+        answer: Refused(Reason::TooMany),
     },
     Long {
         head: b"class A { void m(int",
@@ -312,14 +317,14 @@ static LIMITS: [Long; 9] = [
         piece: b",x",
         count: 65534,
         foot: b",`x; nop; } }",
-        answer: Refused(TOO_MANY),
+        answer: Refused(Reason::TooMany),
     },
     Long {
         head: b"class A { void m() { int x",
         piece: b",x",
         count: 65534,
         foot: b"; T[] `y; nop; } }",
-        answer: Refused(TOO_MANY),
+        answer: Refused(Reason::TooMany),
     },
     Long {
         head: b"class A { void m() { int x",
@@ -348,6 +353,15 @@ fn unmarked(alloc: Global, marked: &[u8]) -> Result<(Vec<u8>, Option<u32>), Allo
     Ok((text, place))
 }
 
+/// Where the first of so many last tokens stands, which is nowhere for none.
+fn place_of(tokens: &[Token], left: usize) -> Option<u32> {
+    let number = tokens.len().checked_sub(left)?;
+    match tokens.get(number) {
+        Some(token) => u32::try_from(token.from).ok(),
+        None => None,
+    }
+}
+
 /// The text without its mark is answered so.
 fn is_answered(alloc: Global, marked: &[u8], wanted: Answer) -> Result<bool, AllocError> {
     let (text, place) = unmarked(alloc, marked)?;
@@ -358,14 +372,15 @@ fn is_answered(alloc: Global, marked: &[u8], wanted: Answer) -> Result<bool, All
     let Ok(tokens) = lex(alloc, bytes, 0) else {
         return Ok(false);
     };
-    Ok(
-        match (read_tokens(alloc, bytes, tokens.as_slice()), wanted) {
-            (Ok(classes), Classes(count)) => classes.as_slice().len() == count,
-            (Err(ParseStop::Syntax(at)), Syntax) => at == place,
-            (Err(ParseStop::Refused(why, at)), Refused(reason)) => why == reason && at == place,
-            _ => false,
-        },
-    )
+    let tokens = tokens.as_slice();
+    Ok(match (read_tokens(alloc, bytes, tokens), wanted) {
+        (Ok(classes), Classes(count)) => classes.as_slice().len() == count,
+        (Err(ParseStop::Syntax(left)), Syntax) => place_of(tokens, left) == place,
+        (Err(ParseStop::Refused(why, left)), Refused(reason)) => {
+            why == reason && place_of(tokens, left) == place
+        }
+        _ => false,
+    })
 }
 
 fn repeated(

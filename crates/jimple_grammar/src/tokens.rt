@@ -10,7 +10,8 @@ use crate::parameter::word_kind;
 use jimple_lex::{Token, TokenKind};
 use std::alloc::{AllocError, Global};
 
-fn kind_of(kind: TokenKind, text: &[u8]) -> Kind
+/// The kind of a token of that text.
+pub fn kind_of(kind: TokenKind, text: &[u8]) -> Kind
     ensures { result ≡ kind_of kind text.now }
 {
     match kind {

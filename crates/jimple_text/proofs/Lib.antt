@@ -1,13 +1,3 @@
-pub mod Locals
-pub mod Finding
-pub mod Found
-pub mod Digits
-pub mod Refused
-pub mod Each
-pub mod Keys
-pub mod Alike
-pub mod Resolved
-pub mod Narrowed
-pub mod Counted
-pub mod OfBodies
-pub mod Classes
+pub mod Left
+pub mod Told
+pub mod Lexed

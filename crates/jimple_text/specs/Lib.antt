@@ -1,5 +1,2 @@
-pub mod Shape
-pub mod Names
-pub mod Resolving
-pub mod Narrow
-pub mod Built
+pub mod Reads
+pub mod Settled

@@ -1,24 +1,8 @@
-// Reads the text of a class of the grammar built so far (docs/FORMATS.md, "Grammar built so far"). The grammar of class
-// files and the tree of a class stand below; the programs that work on classes above.
-//
-// A text goes through these modules: `shape` tells whether its tokens are of the grammar built so far; `narrow` makes
-// the small raw tree of the raw tree of the whole grammar; `resolver` looks names up in a `scope`, and `body`, `methods`
-// and `resolve` make the class; and `read` joins them.
+// Reads the classes of a text: its tokens, their tree, and the names in it. Each of these is a crate below; the program
+// stands above.
 #![tactic(auto)]
 
-mod apart;
-mod body;
-mod methods;
-mod names;
-mod narrow;
-mod parameter;
-mod raw;
-mod read;
-mod resolve;
-mod resolver;
-mod scope;
-mod shape;
-mod stop;
+pub mod read;
 #[cfg(test)]
 mod tests;
 

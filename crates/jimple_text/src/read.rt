@@ -1,84 +1,167 @@
-// The reader of classes: tokens, then the tree of the whole grammar, then the small one, then names. The program stands
-// above.
-ghost use Rattle.std.specs.Prelude.{◌≡◌, ◌<◌, ◌≤◌, ◌^◌, List, true, All, IfOk, IfErr, length};
-ghost use Rattle.jimple_lex.specs.declared.token.Token.{Token};
-ghost use Rattle.jimple_lex.specs.Lexed.{Lexed, InOrder};
-ghost use Rattle.jimple_tree.specs.declared.tree.Class.{Class};
-ghost use Rattle.jimple_tree.specs.Bodies.{IsOfBodies};
-ghost use Rattle.jimple_text.specs.Shape.{is_plain};
-ghost use Rattle.jimple_text.specs.Resolving.{Refuses};
-ghost use Rattle.jimple_text.specs.Built.{IsClassOf, IsBuilt, NotBuilt};
+// The reader of classes, which joins the faults of bytes, of the grammar and of names in their order.
+ghost use Rattle.std.specs.Prelude.{◌≡◌, ◌<◌, ◌≤◌, ◌^◌, ◌++◌, ℕ, suc, List, All, IfOk, IfErr, Err, length};
+ghost use Rattle.jimple_tree.specs.WellFormed.{IsWellFormed};
+ghost use Rattle.jimple_grammar.specs.declared.lexeme.Lexeme.{Lexeme};
+ghost use Rattle.jimple_grammar.specs.declared.raw.RawClass.{RawClass};
+ghost use Rattle.jimple_grammar.specs.Forms.{file as file_form};
+ghost use Rattle.jimple_grammar.specs.Lexemes.{lexemes};
+ghost use Rattle.jimple_grammar.specs.Stops.{Told, IsSettled};
+ghost use Rattle.jimple_text.specs.Reads.{place, form_of, form_in_front, last_place};
+ghost use Rattle.jimple_text.specs.Settled.{IsRead, Refused, AreGiven, AreRefused, Stopped, TokensRefused, as_input, as_stop};
+ghost use Rattle.jimple_grammar.specs.Gives.{reason_number};
 
-use crate::narrow::narrow;
-use crate::resolve::resolve;
-use crate::shape::is_plain;
-use crate::stop::BuildStop;
-use clean_base::{InputFault, Stop};
-use jimple_grammar::read_tokens;
+use clean_base::{Form, InputFault, Stop};
+use jimple_grammar::kind::Kind;
+use jimple_grammar::{ParseStop, Reason, kind_of, read_tokens};
 use jimple_lex::{Token, lex};
+use jimple_names::{NameFault, NameStop, name_classes};
 use jimple_tree::Class;
 use std::alloc::Global;
 
-/// The class of these tokens of the text.
-fn build(alloc: Global, bytes: &[u8], tokens: &[Token]) -> Result<Class, BuildStop>
-    requires { All (λ t. (t.from < t.to) × (t.to ≤ length bytes.now)) tokens.now × (length bytes.now < 2 ^ 32) }
-    ensures ok { IfOk result (λ c. IsClassOf bytes.now tokens.now c) }
-    ensures only { IfOk result (λ c. (d : Class) → IsClassOf bytes.now tokens.now d → d ≡ c) }
-    ensures err { IfErr result (Refuses ((d : Class) → IsClassOf bytes.now tokens.now d → ⊥)) }
+/// Where the first of the last so many tokens stands, or the end of the text.
+fn place(bytes: &[u8], tokens: &[Token], left: usize) -> u64
+    ensures { (front rest : List Lexeme) → lexemes bytes.now tokens.now ≡ front ++ rest → left ≡ length rest → result ≡ place bytes.now rest }
 {
-    let whole = read_tokens(alloc, bytes, tokens)?;
-    let raw = narrow(alloc, whole.as_slice())?;
-    resolve(alloc, bytes, &raw)
-}
-
-/// The tokens of the text, where they are of the grammar built so far.
-fn tokens(alloc: Global, bytes: &[u8], file: u32) -> Result<Vec<Token>, BuildStop>
-    ensures ok { IfOk result (λ ts. Lexed 0 bytes.now ts.items × (is_plain bytes.now 0 ts.items ≡ true)) }
-    ensures only { IfOk result (λ ts. (us : List Token) → Lexed 0 bytes.now us → us ≡ ts.items) }
-    ensures spans { IfOk result (λ ts. All (λ t. (t.from < t.to) × (t.to ≤ length bytes.now)) ts.items) }
-    ensures err { IfErr result (Refuses ((us : List Token) → Lexed 0 bytes.now us → is_plain bytes.now 0 us ≡ true → ⊥)) }
-{
-    match lex(alloc, bytes, file) {
-        Ok(tokens) => {
-            if is_plain(bytes, tokens.as_slice()) {
-                Ok(tokens)
-            } else {
-                Err(BuildStop::NotBuilt)
-            }
-        }
-        Err(Stop::OutOfMemory) => Err(BuildStop::OutOfMemory),
-        Err(Stop::Fault(_)) => Err(BuildStop::NotBuilt),
+    match tokens.get(tokens.len().saturating_sub(left)) {
+        Some(token) => token.from,
+        None => bytes.len() as u64,
     }
 }
 
-/// The classes of a text.
-fn classes(alloc: Global, bytes: &[u8], file: u32) -> Result<Vec<Class>, BuildStop>
-    requires { length bytes.now < 2 ^ 32 }
-    ensures ok { IfOk result (λ cs. IsBuilt bytes.now cs.items) }
-    ensures only { IfOk result (λ cs. (ds : List Class) → IsBuilt bytes.now ds → ds ≡ cs.items) }
-    ensures err { IfErr result (Refuses ((ds : List Class) → IsBuilt bytes.now ds → ⊥)) }
+/// Where the token before the last so many stands.
+fn place_before(tokens: &[Token], left: usize) -> u64
+    ensures { (bytes : List ℕ) (front rest : List Lexeme) → lexemes bytes tokens.now ≡ front ++ rest → left ≡ length rest → result ≡ last_place front }
 {
-    let tokens = tokens(alloc, bytes, file)?;
-    let class = build(alloc, bytes, tokens.as_slice())?;
-    let mut classes = Vec::with_capacity(alloc, 1)?;
-    classes.push(class)?;
-    Ok(classes)
+    match tokens.len().saturating_sub(left).checked_sub(1) {
+        Some(number) => match tokens.get(number) {
+            Some(token) => token.from,
+            None => 0,
+        },
+        None => 0,
+    }
 }
 
-/// Reads the classes of a text. `file` is the file's place in the order of reading, as faults name it.
+fn form_of(kind: Kind) -> Form
+    ensures { result ≡ form_of kind }
+{
+    match kind {
+        Kind::Dynamicinvoke => Form::Dynamic,
+        Kind::Ret => Form::Ret,
+        _ => Form::Breakpoint,
+    }
+}
+
+/// The form of the word that is the first of the last so many tokens.
+fn form(bytes: &[u8], tokens: &[Token], left: usize) -> Form
+    requires { All (λ t. (t.from < t.to) × (t.to ≤ length bytes.now)) tokens.now × (length bytes.now < 2 ^ 32) }
+    ensures { (front rest : List Lexeme) → lexemes bytes.now tokens.now ≡ front ++ rest → left ≡ length rest → result ≡ form_in_front rest }
+{
+    match tokens.get(tokens.len().saturating_sub(left)) {
+        Some(token) => {
+            let text = &bytes[token.from as usize..token.to as usize];
+            form_of(kind_of(token.kind, text))
+        }
+        None => Form::Breakpoint,
+    }
+}
+
+/// The fault of the file of that number, of whose tokens so many are left where one is refused.
+fn refusal(bytes: &[u8], tokens: &[Token], file: u32, reason: Reason, left: usize) -> InputFault
+    requires { All (λ t. (t.from < t.to) × (t.to ≤ length bytes.now)) tokens.now × (length bytes.now < 2 ^ 32)
+        × IsSettled file_form (lexemes bytes.now tokens.now) × Stopped bytes.now tokens.now (suc (reason_number reason)) left }
+    ensures { AreRefused file bytes.now tokens.now result }
+{
+    match reason {
+        Reason::Unsupported => InputFault::Unsupported {
+            file,
+            at: place(bytes, tokens, left),
+            form: form(bytes, tokens, left),
+        },
+        Reason::TooMany => InputFault::TooMany {
+            file,
+            at: place(bytes, tokens, left),
+        },
+        Reason::WordBefore => InputFault::Unsupported {
+            file,
+            at: place_before(tokens, left),
+            form: Form::MethodConst,
+        },
+    }
+}
+
+/// The fault of the file of that number, whose tokens stop to begin a file.
+fn grammar_fault(bytes: &[u8], tokens: &[Token], file: u32, stop: ParseStop) -> Stop
+    requires { All (λ t. (t.from < t.to) × (t.to ≤ length bytes.now)) tokens.now × (length bytes.now < 2 ^ 32)
+        × IsSettled file_form (lexemes bytes.now tokens.now) × Told {A = List RawClass} file_form (lexemes bytes.now tokens.now) (Err stop) }
+    ensures { TokensRefused file bytes.now tokens.now result }
+{
+    match stop {
+        ParseStop::OutOfMemory => Stop::OutOfMemory,
+        ParseStop::Syntax(left) => {
+            let at = place(bytes, tokens, left);
+            Stop::Fault(InputFault::Syntax { file, at })
+        }
+        ParseStop::Refused(reason, left) => {
+            Stop::Fault(refusal(bytes, tokens, file, reason, left))
+        }
+    }
+}
+
+fn name_fault(file: u32, fault: NameFault) -> InputFault
+    ensures { result ≡ as_input file fault }
+{
+    match fault {
+        NameFault::DoubleName(at) => InputFault::DoubleName {
+            file,
+            at: at as u64,
+        },
+        NameFault::UnknownLocal(at) => InputFault::UnknownLocal {
+            file,
+            at: at as u64,
+        },
+        NameFault::UnknownLabel(at) => InputFault::UnknownLabel {
+            file,
+            at: at as u64,
+        },
+    }
+}
+
+fn name_stop(file: u32, stop: NameStop) -> Stop
+    ensures { result ≡ as_stop file stop }
+{
+    match stop {
+        NameStop::OutOfMemory => Stop::OutOfMemory,
+        NameStop::Fault(fault) => Stop::Fault(name_fault(file, fault)),
+    }
+}
+
+/// The classes of these tokens of the text.
+fn build(alloc: Global, bytes: &[u8], tokens: &[Token], file: u32) -> Result<Vec<Class>, Stop>
+    requires { All (λ t. (t.from < t.to) × (t.to ≤ length bytes.now)) tokens.now × (length bytes.now < 2 ^ 32) × (length tokens.now < 2 ^ 32) }
+    ensures ok { IfOk result (λ cs. AreGiven file bytes.now tokens.now cs.items) }
+    ensures well_formed { IfOk result (λ cs. All IsWellFormed cs.items) }
+    ensures err { IfErr result (TokensRefused file bytes.now tokens.now) }
+{
+    let tree = match read_tokens(alloc, bytes, tokens) {
+        Ok(tree) => tree,
+        Err(stop) => return Err(grammar_fault(bytes, tokens, file, stop)),
+    };
+    match name_classes(alloc, bytes, tree.as_slice()) {
+        Ok(classes) => Ok(classes),
+        Err(stop) => Err(name_stop(file, stop)),
+    }
+}
+
+/// Reads the classes of a text, whole. `file` is the file's place in the order of reading, as faults name it.
 ///
-/// An error is want of memory, or `NotYet`: the text isn't of the grammar that is built so far (docs/FORMATS.md,
-/// "Grammar built so far").
+/// An error is want of memory, or the first fault of the text: of its bytes (`BadByte`, `OpenText`), else of its tokens
+/// (`Syntax`, `Unsupported`, `TooMany`), else of its names (`DoubleName`, `UnknownLocal`, `UnknownLabel`).
 pub fn read_classes(alloc: Global, bytes: &[u8], file: u32) -> Result<Vec<Class>, Stop>
     requires { length bytes.now < 2 ^ 32 }
-    ensures ok { IfOk result (λ cs. IsBuilt bytes.now cs.items) }
-    ensures only { IfOk result (λ cs. (ds : List Class) → IsBuilt bytes.now ds → ds ≡ cs.items) }
-    ensures err { IfErr result (NotBuilt file bytes.now) }
-    ensures bodies { IfOk result (λ cs. All IsOfBodies cs.items) }
+    ensures ok { IfOk result (λ cs. IsRead file bytes.now cs.items) }
+    ensures well_formed { IfOk result (λ cs. All IsWellFormed cs.items) }
+    ensures err { IfErr result (Refused file bytes.now) }
 {
-    match classes(alloc, bytes, file) {
-        Ok(classes) => Ok(classes),
-        Err(BuildStop::OutOfMemory) => Err(Stop::OutOfMemory),
-        Err(BuildStop::NotBuilt) => Err(Stop::Fault(InputFault::NotYet { file })),
-    }
+    let tokens = lex(alloc, bytes, file)?;
+    build(alloc, bytes, tokens.as_slice(), file)
 }

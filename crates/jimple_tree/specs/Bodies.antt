@@ -1,6 +1,6 @@
 -- Bodies of methods, their statements in order, and the classes within the limits on both. Well formed classes stand
 -- below.
-use Rattle.std.specs.Prelude.{◌≡◌, ◌≤◌, ℕ, List, [], length, Option, Some, None, All, filter, flat_map, is_some}
+use Rattle.std.specs.Prelude.{◌≤◌, List, [], length, Option, Some, None, filter, flat_map, is_some}
 use Rattle.jimple_tree.specs.WellFormed.{IsWellFormed}
 use Rattle.jimple_tree.specs.declared.tree.Body.{Body}
 use Rattle.jimple_tree.specs.declared.tree.Class.{Class}
@@ -19,10 +19,6 @@ stmts_of m = body_stmts m.body
 abbrev pub all_stmts : List Method → List Stmt
 all_stmts methods = flat_map stmts_of methods
 
--- the method has a body
-abbrev pub HasBody : Method → Type 0
-HasBody m = (body : Body) × (m.body ≡ Some body)
-
 -- the methods with a body
 abbrev pub bodied : List Method → List Method
 bodied methods = filter (λ m. is_some m.body) methods
@@ -31,12 +27,4 @@ bodied methods = filter (λ m. is_some m.body) methods
 pub record IsWithin (c : Class) : Type 0 where
   pub well_formed : IsWellFormed c
   pub methods : length (bodied c.methods) ≤ 32768
-  pub statements : length (all_stmts c.methods) ≤ 4194304
-
--- until the reader gives every class:
--- a well formed class, each of whose methods has a body, within the limits on methods and statements
-pub record IsOfBodies (c : Class) : Type 0 where
-  pub well_formed : IsWellFormed c
-  pub bodies : All HasBody c.methods
-  pub methods : length c.methods ≤ 32768
   pub statements : length (all_stmts c.methods) ≤ 4194304

@@ -12,4 +12,4 @@ pub returns-then-is_at_end : goal.returns-then-is_at_end
 returns-then-is_at_end c = rw c.from_vec.ensures (file_read c.args.tokens.now c.new-cursor.result.left.now c.file.new.self.left.now c.in_ok-found.found.items c.new-cursor.ensures c.in_ok-found.ensures (sym c.is_at_end.ensures ∙ c.if-is_at_end.true))
 
 pub returns-else-is_at_end : goal.returns-else-is_at_end
-returns-else-is_at_end c = file_behind c.args.tokens.now c.new-cursor.result.left.now c.file.new.self.left.now c.in_ok-found.found.items c.place.result c.new-cursor.ensures c.in_ok-found.ensures (sym c.is_at_end.ensures ∙ c.if-is_at_end.false) c.place.ensures
+returns-else-is_at_end c = file_behind c.args.tokens.now c.new-cursor.result.left.now c.file.new.self.left.now c.in_ok-found.found.items c.remaining.result c.new-cursor.ensures c.in_ok-found.ensures (sym c.is_at_end.ensures ∙ c.if-is_at_end.false) c.remaining.ensures

@@ -1,0 +1,14 @@
+pub mod Unquoted
+pub mod Positions
+pub mod Parameters
+pub mod Turns
+pub mod Doubles
+pub mod Stops
+pub mod Walks
+pub mod OfBodies
+pub mod OfMembers
+pub mod WellFormedParts
+pub mod WellFormedKinds
+pub mod WellFormedBodies
+pub mod WellFormedMembers
+pub mod WellFormed

@@ -1,8 +1,0 @@
-use Rattle.std.proofs.lemmas.Result.{err_from_is_err_and}
-use Rattle.jimple_text.proofs.Refused.{refuses}
-use Rattle.jimple_text.proofs.methods.method.Goals as goal
-
-pub returns-in_err-body-clause-err : goal.returns-in_err-body-clause-err
-returns-in_err-body-clause-err c =
-    let p = err_from_is_err_and c.from_residual.result c.from_residual.ensures.1 in
-    rw (p.1, p.2) (refuses c.in_err-body.field-0.0 (λ f m k. f k.body k.body_is) c.in_err-body.ensures.err)
