@@ -1,0 +1,14 @@
+pub mod Pieces
+pub mod After
+pub mod Names
+pub mod Written
+pub mod OperandPieces
+pub mod StatementPieces
+pub mod ClassPieces
+pub mod Lexemes
+pub mod Plain
+pub mod RawParts
+pub mod RawOperands
+pub mod RawStatements
+pub mod RawClasses
+pub mod Known
