@@ -33,6 +33,21 @@ pub enum InputFault {
     /// A label that doesn't stand in the body.
     #[error("unknown label at {at}")]
     UnknownLabel { file: u32, at: u64 },
+    /// The classes give and name more classes than there is room for.
+    #[error("too many classes")]
+    LimitClasses,
+    /// A class of that name was given before.
+    #[error("class given twice")]
+    DoubleClass { class: Name },
+    /// A class that is reached from itself along `extends` and `implements`.
+    #[error("class is its own supertype")]
+    Cycle { class: Name },
+    /// The classes have more methods with a body than there is room for.
+    #[error("too many methods")]
+    LimitMethods,
+    /// Their bodies have more statements than there is room for.
+    #[error("too many statements")]
+    LimitStmts,
     /// The entry signature names no method with a body.
     #[error("entry method not found")]
     EntryMissing,

@@ -3,7 +3,7 @@ use Rattle.std.specs.Prelude.{ℕ, zero, suc, ◌-◌, List, [], ◌++◌, codes
 use Rattle.clean_base.specs.declared.fault.Form.{Form}
 use Rattle.clean_base.specs.declared.fault.Form.TheVariants.{Dynamic, Ret, Breakpoint, MethodConst}
 use Rattle.clean_base.specs.declared.fault.InputFault.{InputFault}
-use Rattle.clean_base.specs.declared.fault.InputFault.TheVariants.{TooLong, BadByte, OpenText, Syntax, Unsupported, TooMany, DoubleName, UnknownLocal, UnknownLabel, EntryMissing, NotYet}
+use Rattle.clean_base.specs.declared.fault.InputFault.TheVariants.{TooLong, BadByte, OpenText, Syntax, Unsupported, TooMany, DoubleName, UnknownLocal, UnknownLabel, LimitClasses, DoubleClass, Cycle, LimitMethods, LimitStmts, EntryMissing, NotYet}
 use Rattle.clean_top.specs.Words.{word}
 use Rattle.clean_top.specs.declared.status.Status.{Status}
 use Rattle.clean_top.specs.declared.status.Status.TheVariants.{Clean, Leaks, Usage, Input, EdgeLimit, ReadFault, WriteFault, OutOfMemory}
@@ -34,6 +34,10 @@ form_word Ret = codes "ret"
 form_word Breakpoint = codes "breakpoint"
 form_word MethodConst = codes "methodhandle"
 
+-- what is wrong with a class
+abbrev pub class_fault_text : List ℕ → List ℕ → List ℕ
+class_fault_text class wrong = codes "class " ++ class ++ wrong
+
 -- what is said of a fault of the input
 abbrev pub fault_text : List (List ℕ) → InputFault → List ℕ
 fault_text words (TooLong file at) = place_text (file_word words file) (codes "longer than ") at ++ codes " bytes"
@@ -45,6 +49,11 @@ fault_text words (TooMany file at) = place_text (file_word words file) (codes "t
 fault_text words (DoubleName file at) = place_text (file_word words file) (codes "name given twice at ") at
 fault_text words (UnknownLocal file at) = place_text (file_word words file) (codes "unknown local at ") at
 fault_text words (UnknownLabel file at) = place_text (file_word words file) (codes "unknown label at ") at
+fault_text words LimitClasses = codes "too many classes"
+fault_text words (DoubleClass class) = class_fault_text class (codes " given twice")
+fault_text words (Cycle class) = class_fault_text class (codes " is its own supertype")
+fault_text words LimitMethods = codes "too many methods"
+fault_text words LimitStmts = codes "too many statements"
 fault_text words EntryMissing = codes "entry method not found"
 fault_text words (NotYet file) = file_word words file ++ codes ": form not built yet"
 

@@ -1,11 +1,11 @@
 // The line on the standard error that says why a call refused.
 ghost use Rattle.std.specs.Prelude.{◌≡◌, ◌-◌, ◌++◌, OnOk, IfOk, codes, decimal};
 ghost use Rattle.clean_top.specs.Answer.{Complains, OrMemory, Takes};
-ghost use Rattle.clean_top.specs.Status.{fault_text, file_word, form_word, place_text, line_text, error_text};
+ghost use Rattle.clean_top.specs.Status.{class_fault_text, fault_text, file_word, form_word, place_text, line_text, error_text};
 
 use crate::status::Status;
 use arrayvec::ArrayString;
-use clean_base::{Form, InputFault, Sink, Word, put_all};
+use clean_base::{Form, InputFault, Name, Sink, Word, put_all};
 use itoa::Buffer;
 use std::alloc::{AllocError, Global};
 
@@ -43,6 +43,15 @@ fn refusal(form: Form) -> &'static [u8]
     }
 }
 
+// What is wrong with a class.
+fn write_class_fault(line: &mut Vec<u8>, class: &Name, wrong: &[u8]) -> Result<(), AllocError>
+    ensures { OnOk result (line.new.items ≡ line.old.items ++ class_fault_text class.now wrong.now) }
+{
+    line.extend_from_slice(b"class ")?;
+    line.extend_from_slice(class.bytes())?;
+    line.extend_from_slice(wrong)
+}
+
 fn write_fault(line: &mut Vec<u8>, words: &[Word], fault: &InputFault) -> Result<(), AllocError>
     ensures { OnOk result (line.new.items ≡ line.old.items ++ fault_text words.now fault.now) }
 {
@@ -75,6 +84,11 @@ fn write_fault(line: &mut Vec<u8>, words: &[Word], fault: &InputFault) -> Result
         InputFault::UnknownLabel { file, at } => {
             write_place(line, file_of(words, *file), b"unknown label at ", *at)
         }
+        InputFault::LimitClasses => line.extend_from_slice(b"too many classes"),
+        InputFault::DoubleClass { class } => write_class_fault(line, class, b" given twice"),
+        InputFault::Cycle { class } => write_class_fault(line, class, b" is its own supertype"),
+        InputFault::LimitMethods => line.extend_from_slice(b"too many methods"),
+        InputFault::LimitStmts => line.extend_from_slice(b"too many statements"),
         InputFault::EntryMissing => line.extend_from_slice(b"entry method not found"),
         InputFault::NotYet { file } => {
             line.extend_from_slice(file_of(words, *file).as_bytes())?;

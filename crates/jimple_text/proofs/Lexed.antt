@@ -3,7 +3,7 @@ use Rattle.std.proofs.Common.{◌≡◌, ℕ, ◌+◌, ◌^◌, ◌<◌, ◌≤�
 use Rattle.std.proofs.lemmas.List.{length-append}
 use Rattle.std.proofs.lemmas.List.Elements.{All-head, All-tail}
 use Rattle.clean_base.specs.declared.fault.InputFault.{InputFault}
-use Rattle.clean_base.specs.declared.fault.InputFault.TheVariants.{TooLong, BadByte, OpenText, Syntax, Unsupported, TooMany, DoubleName, UnknownLocal, UnknownLabel, EntryMissing, NotYet}
+use Rattle.clean_base.specs.declared.fault.InputFault.TheVariants.{TooLong, BadByte, OpenText, Syntax, Unsupported, TooMany, DoubleName, UnknownLocal, UnknownLabel, LimitClasses, DoubleClass, Cycle, LimitMethods, LimitStmts, EntryMissing, NotYet}
 use Rattle.jimple_lex.specs.declared.token.Token.{Token}
 use Rattle.jimple_lex.specs.Lexed.{Lexed, ends, blank, comment, token}
 use Rattle.clean_base.specs.declared.fault.Stop.{Stop}
@@ -44,6 +44,11 @@ no_lexical number bytes ts lexed (TooMany named at) h = h
 no_lexical number bytes ts lexed (DoubleName named at) h = h
 no_lexical number bytes ts lexed (UnknownLocal named at) h = h
 no_lexical number bytes ts lexed (UnknownLabel named at) h = h
+no_lexical number bytes ts lexed LimitClasses h = h
+no_lexical number bytes ts lexed (DoubleClass name) h = h
+no_lexical number bytes ts lexed (Cycle name) h = h
+no_lexical number bytes ts lexed LimitMethods h = h
+no_lexical number bytes ts lexed LimitStmts h = h
 no_lexical number bytes ts lexed EntryMissing h = h
 no_lexical number bytes ts lexed (NotYet named) h = h
 
@@ -83,6 +88,11 @@ module _ (number : ℕ) (bytes : List ℕ) where
   after_bad a at h (DoubleName d b) k = absurd k
   after_bad a at h (UnknownLocal d b) k = absurd k
   after_bad a at h (UnknownLabel d b) k = absurd k
+  after_bad a at h LimitClasses k = absurd k
+  after_bad a at h (DoubleClass name) k = absurd k
+  after_bad a at h (Cycle name) k = absurd k
+  after_bad a at h LimitMethods k = absurd k
+  after_bad a at h LimitStmts k = absurd k
   after_bad a at h EntryMissing k = absurd k
   after_bad a at h (NotYet d) k = absurd k
 
@@ -96,6 +106,11 @@ module _ (number : ℕ) (bytes : List ℕ) where
   after_open a at h (DoubleName d b) k = absurd k
   after_open a at h (UnknownLocal d b) k = absurd k
   after_open a at h (UnknownLabel d b) k = absurd k
+  after_open a at h LimitClasses k = absurd k
+  after_open a at h (DoubleClass name) k = absurd k
+  after_open a at h (Cycle name) k = absurd k
+  after_open a at h LimitMethods k = absurd k
+  after_open a at h LimitStmts k = absurd k
   after_open a at h EntryMissing k = absurd k
   after_open a at h (NotYet d) k = absurd k
 
@@ -109,6 +124,11 @@ module _ (number : ℕ) (bytes : List ℕ) where
   only_lexical (DoubleName a b) g h k = absurd h
   only_lexical (UnknownLocal a b) g h k = absurd h
   only_lexical (UnknownLabel a b) g h k = absurd h
+  only_lexical LimitClasses g h k = absurd h
+  only_lexical (DoubleClass name) g h k = absurd h
+  only_lexical (Cycle name) g h k = absurd h
+  only_lexical LimitMethods g h k = absurd h
+  only_lexical LimitStmts g h k = absurd h
   only_lexical EntryMissing g h k = absurd h
   only_lexical (NotYet a) g h k = absurd h
 
@@ -141,6 +161,11 @@ module _ (number : ℕ) (bytes : List ℕ) where
   unlexed (Fault (DoubleName a b)) h = absurd h
   unlexed (Fault (UnknownLocal a b)) h = absurd h
   unlexed (Fault (UnknownLabel a b)) h = absurd h
+  unlexed (Fault LimitClasses) h = absurd h
+  unlexed (Fault (DoubleClass name)) h = absurd h
+  unlexed (Fault (Cycle name)) h = absurd h
+  unlexed (Fault LimitMethods) h = absurd h
+  unlexed (Fault LimitStmts) h = absurd h
   unlexed (Fault EntryMissing) h = absurd h
   unlexed (Fault (NotYet a)) h = absurd h
   unlexed OutOfMemory h = tt

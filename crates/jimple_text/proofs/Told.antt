@@ -4,7 +4,7 @@ use Rattle.std.proofs.lemmas.List.{append_cancel_right}
 use Rattle.clean_base.specs.declared.fault.Form.{Form}
 use Rattle.clean_base.specs.declared.fault.Form.TheVariants as forms
 use Rattle.clean_base.specs.declared.fault.InputFault.{InputFault}
-use Rattle.clean_base.specs.declared.fault.InputFault.TheVariants.{TooLong, BadByte, OpenText, Syntax, Unsupported, TooMany, DoubleName, UnknownLocal, UnknownLabel, EntryMissing, NotYet}
+use Rattle.clean_base.specs.declared.fault.InputFault.TheVariants.{TooLong, BadByte, OpenText, Syntax, Unsupported, TooMany, DoubleName, UnknownLocal, UnknownLabel, LimitClasses, DoubleClass, Cycle, LimitMethods, LimitStmts, EntryMissing, NotYet}
 use Rattle.jimple_lex.specs.declared.token.Token.{Token}
 use Rattle.jimple_tree.specs.declared.tree.Class.{Class}
 use Rattle.jimple_grammar.specs.declared.lexeme.Lexeme.{Lexeme}
@@ -53,6 +53,11 @@ module _ (number : ℕ) (bytes : List ℕ) (tokens : List Token) where
       only_fault (DoubleName named at) h = absurd (not_named (names.DoubleName at) h.1)
       only_fault (UnknownLocal named at) h = absurd (not_named (names.UnknownLocal at) h.1)
       only_fault (UnknownLabel named at) h = absurd (not_named (names.UnknownLabel at) h.1)
+      only_fault LimitClasses h = absurd h
+      only_fault (DoubleClass name) h = absurd h
+      only_fault (Cycle name) h = absurd h
+      only_fault LimitMethods h = absurd h
+      only_fault LimitStmts h = absurd h
       only_fault EntryMissing h = absurd h
       only_fault (NotYet named) h = absurd h
 
@@ -100,6 +105,11 @@ module _ (number : ℕ) (bytes : List ℕ) (tokens : List Token) where
       named_fault (DoubleName named at) h = (names.DoubleName at, named_so (names.DoubleName at) h.1, rw h.0 refl)
       named_fault (UnknownLocal named at) h = (names.UnknownLocal at, named_so (names.UnknownLocal at) h.1, rw h.0 refl)
       named_fault (UnknownLabel named at) h = (names.UnknownLabel at, named_so (names.UnknownLabel at) h.1, rw h.0 refl)
+      named_fault LimitClasses h = absurd h
+      named_fault (DoubleClass name) h = absurd h
+      named_fault (Cycle name) h = absurd h
+      named_fault LimitMethods h = absurd h
+      named_fault LimitStmts h = absurd h
       named_fault EntryMissing h = absurd h
       named_fault (NotYet named) h = absurd h
 
