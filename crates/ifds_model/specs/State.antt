@@ -1,6 +1,7 @@
 -- What contracts see of a solver's state: items, frames and contexts, never the numbers of a representation
 -- (docs/SOLVER.md, "State"). Machines and runs stand below; what is so of a sound state, and its events, above.
-use Rattle.std.specs.Prelude.{◌≡◌, ◌≢◌, ◌⊎◌, ◌<◌, ℕ, Bool, true, false, List, length, slice_index_or, Contains, AllPairs, Option, Some}
+use Rattle.std.specs.Prelude.{◌≡◌, ◌≢◌, ◌⊎◌, ℕ, Bool, true, false, List, AllPairs, Contains, Option, Some}
+pub use Rattle.clean_base.specs.Lists.{At, IsDistinct}
 use Rattle.clean_base.specs.declared.ids.StmtId.{StmtId}
 use Rattle.ifds_model.specs.declared.node.Context.{Context}
 use Rattle.ifds_model.specs.declared.node.Frame.{Frame}
@@ -10,14 +11,6 @@ use Rattle.ifds_model.specs.declared.node.Node.{Node}
 use Rattle.ifds_model.specs.declared.node.Move.{Move}
 use Rattle.ifds_model.specs.declared.node.Move.TheVariants.{Go}
 use Rattle.ifds_model.specs.Machine.{Machine}
-
--- the item stands at this place of the list
-abbrev pub At : {X : Type 0} → List X → ℕ → X → Type 0
-At xs n x = (n < length xs) × (slice_index_or xs n x ≡ x)
-
--- no item stands in the list twice
-abbrev pub IsDistinct : {X : Type 0} → List X → Type 0
-IsDistinct xs = AllPairs (λ x y. x ≢ y) xs
 
 -- a caller that waits for a context, at a call
 pub record Caller (F : Type 0) : Type 0 where
