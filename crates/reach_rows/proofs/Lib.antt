@@ -1,0 +1,10 @@
+pub mod Places
+pub mod Paths
+pub mod Searches
+pub mod Floods
+pub mod Once
+pub mod Walked
+pub mod Stamped
+pub mod Finished
+pub mod Words
+pub mod Closed

@@ -1,0 +1,10 @@
+pub mod Reaches
+pub mod Walks
+pub mod Graphs
+pub mod Stops
+pub mod Closure
+pub mod Search
+pub mod Cycles
+pub mod Onto
+pub mod Stamps
+pub mod Bits

@@ -1,0 +1,5 @@
+// Small graphs.
+mod below;
+mod closure;
+mod graphs;
+mod order;
