@@ -1,0 +1,7 @@
+use Rattle.std.proofs.Common.{◌≡◌, nat_eq, take}
+use lib.Pointwise.{pointwise}
+use Rattle.indexmap.specs.IndexSet.{insert_all}
+use Rattle.class_table.proofs.names.add_names.Given as goal
+
+abbrev pub invariant-loop-name : goal.invariant-loop-name
+invariant-loop-name l = l.names.keys ≡ insert_all (pointwise nat_eq) l.fn.names.keys (take l.name-index l.more)

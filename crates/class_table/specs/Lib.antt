@@ -1,0 +1,12 @@
+pub mod Concrete
+pub mod Concretes
+pub mod Faults
+pub mod Firsts
+pub mod Hierarchy
+pub mod Index
+pub mod Kept
+pub mod Kinds
+pub mod Links
+pub mod Members
+pub mod Methods
+pub mod Resolving
