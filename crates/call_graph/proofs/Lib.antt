@@ -1,0 +1,6 @@
+pub mod Before
+pub mod Listing
+pub mod Meeting
+pub mod Ordered
+pub mod Resolved
+pub mod Saying

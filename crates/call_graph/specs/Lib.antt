@@ -1,0 +1,4 @@
+pub mod ByNumber
+pub mod Calls
+pub mod Floods
+pub mod Graphs
