@@ -1,10 +1,8 @@
-pub mod Indexed
 pub mod Named
 pub mod Says
 pub mod Seen
 pub mod Numbers
 pub mod Whole
-pub mod Pairs
 pub mod Places
 pub mod Lists
 pub mod Same

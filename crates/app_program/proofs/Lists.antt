@@ -6,7 +6,8 @@ use Rattle.std.proofs.lemmas.List.{take_more, take_all, length-append, length-ma
 use Rattle.std.proofs.lemmas.List.Elements.{All-contains, All-same, Contains-get_or, Contains-push, Contains-push_cases, Contains-append_left}
 use Rattle.clean_base.specs.declared.ids.StmtId.{StmtId}
 use Rattle.ifds_model.specs.Count.{cons_cases}
-use Rattle.ifds_model.specs.State.{At}
+use Rattle.clean_base.specs.Lists.{At}
+use Rattle.clean_base.specs.Limits.{most_stmts}
 use Rattle.jimple_tree.specs.Bodies.{body_stmts, stmts_of, all_stmts}
 use Rattle.jimple_tree.specs.WellFormed.{BodyFits}
 use Rattle.jimple_tree.specs.declared.tree.Body.{Body}
@@ -190,7 +191,7 @@ pub in_order_fit : (P : ℕ → Type 0) (places xs ys : List ℕ) → ((u : ℕ)
 in_order_fit P places xs ys same copied all = All-same P ys xs copied (λ k d below. All-contains P places (get_or xs k d) all ((same (get_or xs k d)).0 (Contains-get_or xs k d below)))
 
 -- the numbers fit
-pub numbers_fit : (b : Body) (first s : ℕ) (list : List ℕ) → BodyFits b → first + length b.stmts ≤ 4194304 → ((t : ℕ) → Contains list t ↔ Succ b s t) → All (λ (t : ℕ). first + t < 2 ^ 32) list
+pub numbers_fit : (b : Body) (first s : ℕ) (list : List ℕ) → BodyFits b → first + length b.stmts ≤ most_stmts → ((t : ℕ) → Contains list t ↔ Succ b s t) → All (λ (t : ℕ). first + t < 2 ^ 32) list
 numbers_fit b first s list fits few exact k d below =
     let has : Contains list (get_or list k d) = (k, below, get_or_default list k (get_or list k d) d below) in
     let less = succ_below b s (get_or list k d) fits ((exact (get_or list k d)).0 has) in

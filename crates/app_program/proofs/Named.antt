@@ -1,7 +1,8 @@
--- The methods of one name, from the last to the first.
-use Rattle.std.proofs.Common.{◌≡◌, ◌≢◌, is_some, ◌⊎◌, ◌↔◌, ◌<◌, ◌≤◌, ◌+◌, ℕ, List, length, get_or, Some, None, refl, sym, ap, subst, ◌∙◌, inl, inr, arith}
+-- The method of a class that has a signature.
+use Rattle.std.proofs.Common.{◌≡◌, ◌≢◌, is_some, ◌⊎◌, ◌↔◌, ◌<◌, ◌≤◌, ◌+◌, ℕ, List, [], ◌∷◌, ◌++◌, length, get_or, map, take, Contains, Some, None, refl, sym, ap, subst, ◌∙◌, inl, inr, arith}
 use Rattle.std.specs.Prelude.{Option, IfSome, IfNone}
-use Rattle.std.proofs.lemmas.List.{get_or_default}
+use Rattle.std.proofs.lemmas.List.{get_or_default, take_all, take_more}
+use Rattle.std.proofs.lemmas.List.Elements.{Contains-push_cases}
 use Rattle.std.proofs.lemmas.List.Kept.{AllPairs-filter}
 use Rattle.clean_base.specs.declared.ids.MethodId.{MethodId}
 use Rattle.jimple_tree.specs.Bodies.{IsWithin, bodied}
@@ -9,55 +10,36 @@ use Rattle.jimple_tree.specs.declared.tree.Class.{Class}
 use Rattle.jimple_tree.specs.declared.tree.Method.{Method}
 use Rattle.jimple_tree.specs.declared.tree.Sig.{Sig}
 use Rattle.jimple_tree.specs.WellFormed.{AreDistinct, method_key}
-use Rattle.app_program.specs.declared.index.Index.{Index}
-use Rattle.app_program.specs.Calls.{IsMethod, sig_of}
-use Rattle.app_program.specs.Index.{HasNone, IsLast, IsIndex}
+use Rattle.jimple_tree.specs.Signatures.{sig_of}
+use Rattle.app_program.specs.Calls.{IsMethod}
+use Rattle.app_program.specs.Index.{name_of}
+use Rattle.name_index.proofs.Named.{name_at}
+use Rattle.clean_base.specs.Lists.{At}
 
--- no method from there on has the signature
-abbrev pub NoneFrom : Class → Sig → ℕ → Type 0
-NoneFrom class sig from = (k : ℕ) (m : Method) → from ≤ k → k < length (bodied class.methods) → get_or (bodied class.methods) k m ≡ m → sig ≡ sig_of class m → ⊥
+-- none of the methods with these numbers has the signature
+abbrev pub NoneAmong : Class → Sig → List ℕ → Type 0
+NoneAmong class sig numbers = (k : ℕ) (m : Method) → Contains numbers k → At (bodied class.methods) k m → sig ≡ sig_of class m → ⊥
 
-pub none_yet : (class : Class) (sig : Sig) → NoneFrom class sig (length (bodied class.methods))
-none_yet class sig k m above below is same = absurd (omega (arith, above, below))
+pub none_yet : (class : Class) (sig : Sig) → NoneAmong class sig []
+none_yet class sig k m has at same = let below = has.1 in absurd (omega (arith, below))
 
-place_cases : (k j from : ℕ) → j ≤ k → (k ≡ j) ⊎ ((j + 1 ≤ k) × (k < from)) ⊎ (from ≤ k)
-place_cases k j from h = grind arith
-
--- the method isn't it, and those between have other names
-pub none_before : (class : Class) (sig : Sig) (j from : ℕ) (method : Method) → j < length (bodied class.methods) → NoneFrom class sig from → HasNone (bodied class.methods) sig.name (j + 1) from
-    → method ≡ get_or (bodied class.methods) j method → (sig ≡ sig_of class method → ⊥) → NoneFrom class sig j
-none_before class sig j from method within later between is other k m above below at same = elim (place_cases k j from above) [
-  | inl here ↦
-      let one : m ≡ method = sym at ∙ ap (λ (i : ℕ). get_or (bodied class.methods) i m) here ∙ get_or_default (bodied class.methods) j m method within ∙ sym is in
-      other (same ∙ ap (sig_of class) one)
-  | inr (inl middle) ↦ between k m middle.0 middle.1 (ap (λ (x : Method). x.name) at ∙ ap (λ (s : Sig). s.name) (sym same))
-  | inr (inr high) ↦ later k m high below at same
-]
-
--- no more methods of the name are left
-pub none_at_all : (class : Class) (sig : Sig) (from : ℕ) → NoneFrom class sig from → HasNone (bodied class.methods) sig.name 0 from → (n : MethodId) → IsMethod class sig n → ⊥
-none_at_all class sig from later none n h = elim (cases n.0) [
-  | inl less ↦ none n.0 h.0 (omega arith) less (ap (λ (x : Method). x.name) h.1.1 ∙ ap (λ (s : Sig). s.name) (sym h.2))
-  | inr more ↦ later n.0 h.0 more h.1.0 h.1.1 h.2
+-- nor the one with the next
+pub none_more : (class : Class) (sig : Sig) (numbers : List ℕ) (i k : ℕ) (method : Method) → i < length numbers → k ≡ get_or numbers i 0 → At (bodied class.methods) k method → (sig ≡ sig_of class method → ⊥)
+    → NoneAmong class sig (take i numbers) → NoneAmong class sig (take (i + 1) numbers)
+none_more class sig numbers i k method below is at other none j m has there same = elim (Contains-push_cases (take i numbers) k j (subst (λ (ns : List ℕ). Contains ns j) next has)) [
+  | inl early ↦ none j m early there same
+  | inr here ↦ other (same ∙ ap (sig_of class) (sym there.1 ∙ ap (λ (n : ℕ). get_or (bodied class.methods) n m) (sym here) ∙ get_or_default (bodied class.methods) k m method at.0 ∙ at.1))
 ] where
-  cases : (k : ℕ) → (k < from) ⊎ (from ≤ k)
-  cases k = grind arith
+  next : take (i + 1) numbers ≡ take i numbers ++ k ∷ []
+  next = take_more numbers i 0 below ∙ ap (λ (n : ℕ). take i numbers ++ n ∷ []) (sym is)
 
--- no more methods than these are left
-abbrev pub left : Option ℕ → ℕ
-left None = 0
-left (Some j) = j + 1
-
-pub fewer : (methods : List Method) (name : List ℕ) (j : ℕ) (next : Option ℕ) → IsLast methods name j next → left next < j + 1
-fewer methods name j None h = omega arith
-fewer methods name j (Some k) h = let below = h.0 in omega (arith, below)
-
--- the next method is the last one below this of the same name
-pub next_last : (methods : List Method) (earlier : List (Option ℕ)) (index : Index) → earlier ≡ index.earlier.items → IsIndex methods (length methods) index
-    → (name : List ℕ) (j from : ℕ) (method : Method) → j < from → from ≤ length methods → (get_or methods j method).name ≡ name → IsLast methods name j (get_or earlier j None)
-next_last methods earlier index f h name j from method below within named =
-    let told : IsLast methods (get_or methods j method).name j (get_or index.earlier.items j None) = h.earlier j method None (omega (arith, below, within)) in
-    subst (λ (xs : List (Option ℕ)). IsLast methods name j (get_or xs j None)) (sym f) (subst (λ (w : List ℕ). IsLast methods w j (get_or index.earlier.items j None)) named told)
+-- where these are the numbers of all methods of the name, no method has the signature
+pub none_at_all : (class : Class) (sig : Sig) (numbers : List ℕ) (i : ℕ) → length numbers ≤ i → ((k : ℕ) → Contains numbers k ↔ At (map name_of (bodied class.methods)) k sig.name)
+    → NoneAmong class sig (take i numbers) → (n : MethodId) → IsMethod class sig n → ⊥
+none_at_all class sig numbers i past exact none n (m, at, same) =
+    none n.0 m (subst (λ (ns : List ℕ). Contains ns n.0) (sym (take_all i numbers past)) ((exact n.0).1 named)) at same where
+      named : At (map name_of (bodied class.methods)) n.0 sig.name
+      named = subst (At (map name_of (bodied class.methods)) n.0) (ap (λ (s : Sig). s.name) (sym same)) (name_at name_of (bodied class.methods) n.0 m at)
 
 order : (i j : ℕ) → (i < j) ⊎ (i ≡ j) ⊎ (j < i)
 order i j = grind arith

@@ -7,7 +7,7 @@ use Rattle.std.proofs.lemmas.Slice.Zip.{all_zipped_more}
 use Rattle.std.proofs.lemmas.List.Folds.{length-flat_map-take}
 use Rattle.clean_base.specs.declared.ids.MethodId.{MethodId}
 use Rattle.clean_base.specs.declared.ids.StmtId.{StmtId}
-use Rattle.ifds_model.specs.State.{At}
+use Rattle.clean_base.specs.Lists.{At}
 use Rattle.jimple_tree.specs.Bodies.{bodied, body_stmts, stmts_of, all_stmts}
 use Rattle.jimple_tree.specs.WellFormed.{BodyFits, MethodFits, OptionalBodyFits}
 use Rattle.jimple_tree.specs.declared.tree.Body.{Body}

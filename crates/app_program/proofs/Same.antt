@@ -5,7 +5,7 @@ use Rattle.std.proofs.lemmas.List.{length-map, get_or-map}
 use Rattle.std.proofs.lemmas.List.Kept.{AllPairs-from_increasing}
 use Rattle.clean_base.specs.declared.ids.StmtId.{StmtId}
 use Rattle.ifds_model.specs.Count.{cons_cases}
-use Rattle.ifds_model.specs.State.{At}
+use Rattle.clean_base.specs.Lists.{At}
 use Rattle.jimple_tree.specs.Bodies.{stmts_of}
 use Rattle.jimple_tree.specs.declared.tree.Body.{Body}
 use Rattle.jimple_tree.specs.declared.tree.Method.{Method}

@@ -7,7 +7,7 @@ use Rattle.jimple_tree.specs.declared.tree.Class.{Class}
 use Rattle.jimple_tree.specs.declared.tree.Sig.{Sig}
 use Rattle.source_sink.specs.Lists.{Says}
 use Rattle.source_sink.specs.declared.line.Line.{Line}
-use Rattle.app_program.specs.Calls.{IsKind}
+use Rattle.app_program.specs.Calls.{IsKindInClass}
 use Rattle.app_program.specs.Kinds.{SaysAmong}
 use Rattle.app_program.specs.Known.{Known}
 
@@ -56,9 +56,9 @@ pub own_kind : (known : Known) (class : Class) (lines : List Line) (extends impl
     → IsTrue own ↔ Says lines sig does
     → IsTrue extended ↔ (IsTrue own ⊎ SaysAmong lines extends sig does)
     → IsTrue all ↔ (IsTrue extended ⊎ SaysAmong lines implements sig does)
-    → IsTrue all ↔ IsKind known.class known.lines sig does
+    → IsTrue all ↔ IsKindInClass known.class known.lines sig does
 own_kind known class lines extends implements sig does differs own extended all view es is d equal says above beside =
-    subst (λ (k : Known). IsTrue all ↔ IsKind k.class k.lines sig does) view
+    subst (λ (k : Known). IsTrue all ↔ IsKindInClass k.class k.lines sig does) view
     (union (same_class sig.class class.name (sym d ∙ equal)) says
     (subst (λ (cs : List (List ℕ)). IsTrue extended ↔ (IsTrue own ⊎ SaysAmong lines cs sig does)) es above)
     (subst (λ (cs : List (List ℕ)). IsTrue all ↔ (IsTrue extended ⊎ SaysAmong lines cs sig does)) is beside)) where
@@ -66,9 +66,9 @@ own_kind known class lines extends implements sig does differs own extended all 
           → IsTrue own ↔ Says lines sig does
           → IsTrue extended ↔ (IsTrue own ⊎ SaysAmong lines class.extends sig does)
           → IsTrue all ↔ (IsTrue extended ⊎ SaysAmong lines class.implements sig does)
-          → IsTrue all ↔ IsKind class lines sig does
+          → IsTrue all ↔ IsKindInClass class lines sig does
       union same says extends implements = (there, back) where
-        there : IsTrue all → IsKind class lines sig does
+        there : IsTrue all → IsKindInClass class lines sig does
         there t = elim (implements.0 t) [
           | inl early ↦ elim (extends.0 early) [
             | inl one ↦ inl (says.0 one)
@@ -77,7 +77,7 @@ own_kind known class lines extends implements sig does differs own extended all 
           | inr some ↦ inr (same, (some.0, Contains-append_right class.extends class.implements some.0 some.1, some.2))
         ]
 
-        back : IsKind class lines sig does → IsTrue all
+        back : IsKindInClass class lines sig does → IsTrue all
         back (inl s) = implements.1 (inl (extends.1 (inl (says.1 s))))
         back (inr s) = elim (Contains-append_cases class.extends class.implements s.1.0 s.1.1) [
           | inl early ↦ implements.1 (inl (extends.1 (inr (s.1.0, early, s.1.2))))

@@ -16,8 +16,8 @@ use Rattle.source_sink.specs.declared.line.Kind.{Kind}
 use Rattle.source_sink.specs.declared.line.Line.{Line}
 use Rattle.taint_problem.specs.declared.code.View.{View}
 use Rattle.taint_problem.specs.declared.code.View.TheVariants.{Call}
-use Rattle.app_program.specs.Calls.{IsMethod, IsKind}
-use Rattle.app_program.specs.Views.{local_of, IsCall, IsAssignment, IsView, AreViews}
+use Rattle.app_program.specs.Calls.{IsMethod, IsKindInClass}
+use Rattle.app_program.specs.Views.{local_of, IsViewOfCall, IsAssignment, IsView, AreViews}
 
 -- two tests of one fact
 same_test : (a b : Bool) (P : Type 0) → (IsTrue a ↔ P) → (IsTrue b ↔ P) → b ≡ a
@@ -68,10 +68,10 @@ module _ (class : Class) (lines : List Line) where
   -- a call as it was looked up
   pub call_seen : (to : Option LocalId) (invoke : Invoke) (args : List (Option LocalId)) (kind : Kind) (target : Option MethodId)
       → args ≡ map local_of invoke.args
-      → IsTrue kind.source ↔ IsKind class lines invoke.sig (λ (l : Line). l.source)
-      → IsTrue kind.sink ↔ IsKind class lines invoke.sig (λ (l : Line). l.sink)
+      → IsTrue kind.source ↔ IsKindInClass class lines invoke.sig (λ (l : Line). l.source)
+      → IsTrue kind.sink ↔ IsKindInClass class lines invoke.sig (λ (l : Line). l.sink)
       → ((n : MethodId) → (target ≡ Some n) ↔ (IsMethod class invoke.sig n × (IsTrue kind.source → ⊥) × (IsTrue kind.sink → ⊥)))
-      → IsCall class lines to invoke (Call (record { result = to; args = args; source = kind.source; sink = kind.sink; target = target }))
+      → IsViewOfCall class lines to invoke (Call (record { result = to; args = args; source = kind.source; sink = kind.sink; target = target }))
   call_seen to invoke args kind target args_are source sink found = (
     record { result = to; args = args; source = kind.source; sink = kind.sink; target = target },
     record {
@@ -87,7 +87,7 @@ module _ (class : Class) (lines : List Line) where
     refl,
   )
 
-  call_once : (to : Option LocalId) (invoke : Invoke) (v w : View) → IsCall class lines to invoke v → IsCall class lines to invoke w → w ≡ v
+  call_once : (to : Option LocalId) (invoke : Invoke) (v w : View) → IsViewOfCall class lines to invoke v → IsViewOfCall class lines to invoke w → w ≡ v
   call_once to invoke v w a b =
       let source : b.0.source ≡ a.0.source = same_test _ _ _ a.1.source_says b.1.source_says in
       let sink : b.0.sink ≡ a.0.sink = same_test _ _ _ a.1.sink_says b.1.sink_says in

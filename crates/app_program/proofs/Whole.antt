@@ -6,7 +6,8 @@ use Rattle.clean_base.specs.declared.ids.LocalId.{LocalId}
 use Rattle.clean_base.specs.declared.ids.MethodId.{MethodId}
 use Rattle.clean_base.specs.declared.ids.StmtId.{StmtId}
 use Rattle.ifds_model.specs.Count.{cons_cases}
-use Rattle.ifds_model.specs.State.{At}
+use Rattle.clean_base.specs.Lists.{At}
+use Rattle.clean_base.specs.Limits.{most_params}
 use Rattle.jimple_tree.specs.Bodies.{IsWithin, bodied, stmts_of, body_stmts, all_stmts}
 use Rattle.jimple_tree.specs.WellFormed.{StmtFits, InvokeFits, OptionalBodyFits, MethodFits}
 use Rattle.jimple_tree.specs.declared.tree.Body.{Body}
@@ -26,9 +27,9 @@ use Rattle.taint_problem.specs.Code.{IsWhole}
 use Rattle.taint_problem.specs.declared.code.CallView.{CallView}
 use Rattle.taint_problem.specs.declared.code.View.{View}
 use Rattle.taint_problem.specs.declared.code.View.TheVariants.{Copy, Kill, Combine, Call, Return, Other}
-use Rattle.app_program.specs.Calls.{IsMethod, IsOpen}
+use Rattle.app_program.specs.Calls.{IsMethod, IsOpenInClass}
 use Rattle.app_program.specs.Program.{IsProgram, owners_from}
-use Rattle.app_program.specs.Views.{local_of, IsCallView, IsCall, IsAssignment, IsView, AreViews}
+use Rattle.app_program.specs.Views.{local_of, IsCallView, IsViewOfCall, IsAssignment, IsView, AreViews}
 use Rattle.app_program.specs.declared.program.Program.{Program}
 use Rattle.app_program.proofs.Named.{one_method, distinct_bodied}
 use Rattle.app_program.proofs.Numbers.{firsts_length, owners_length, owners_below, starts_own, all_bodied, nexts_inside}
@@ -68,11 +69,11 @@ has_statements class is k d below =
     body_has m.body (bodied_fit class is k d below).body (filter_passes (λ (m : Method). is_some m.body) class.methods k d below)
 
 -- a signature that names a method of the class has few parameters
-few_params : (class : Class) → IsWithin class → (sig : Sig) (n : MethodId) → IsMethod class sig n → length sig.params ≤ 255
+few_params : (class : Class) → IsWithin class → (sig : Sig) (n : MethodId) → IsMethod class sig n → length sig.params ≤ most_params
 few_params class is sig n (m, at, same) =
     let fits = All-contains MethodFits (bodied class.methods) m (bodied_fit class is) (n.0, at.0, at.1) in
     let e : sig.params ≡ m.params = ap (λ (s : Sig). s.params) same in
-    subst (λ (ps : List _). length ps ≤ 255) (sym e) fits.params
+    subst (λ (ps : List _). length ps ≤ most_params) (sym e) fits.params
 
 module _ (class : Class) (lines : List Line) where
   -- a view of the list is the view of a statement
@@ -89,7 +90,7 @@ module _ (class : Class) (lines : List Line) where
   abbrev Calls : Stmt → CallView → Type 0
   Calls s call = (to : Option LocalId) × (invoke : Invoke) × IsCallView class lines to invoke call × ((b : Body) → StmtFits b s → InvokeFits b invoke)
 
-  one_call : (to : Option LocalId) (invoke : Invoke) (call : CallView) → IsCall class lines to invoke (Call call) → IsCallView class lines to invoke call
+  one_call : (to : Option LocalId) (invoke : Invoke) (call : CallView) → IsViewOfCall class lines to invoke (Call call) → IsCallView class lines to invoke call
   one_call to invoke call (other, is, same) = subst (IsCallView class lines to invoke) (sym (unwrap call other same)) is where
     unwrap : (a b : CallView) → Call a ≡ Call b → a ≡ b
     unwrap a b e = cc
@@ -134,7 +135,7 @@ module _ (class : Class) (lines : List Line) where
   open_call is views are call m has target =
       let seen = seen_of (all_stmts class.methods) views are (Call call) has in
       let h = calls_of seen.0 call seen.2 in
-      let opened : IsOpen class lines h.1.sig m = (h.2.target_is m).0 target in
+      let opened : IsOpenInClass class lines h.1.sig m = (h.2.target_is m).0 target in
       let fits = stmt_fits class is seen.0 seen.1 in
       let invoke_fits = h.3 fits.0 fits.1 in
       let params = few_params class is h.1.sig m opened.names in

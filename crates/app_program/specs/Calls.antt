@@ -1,17 +1,14 @@
 -- What a call is: which method it names, what the list says of it, and whether it is open (docs/FLOW-RULES.md, "Calls").
 use Rattle.std.specs.Prelude.{◌≡◌, ◌⊎◌, ℕ, Bool, List, ◌++◌, Contains}
 use Rattle.clean_base.specs.declared.ids.MethodId.{MethodId}
-use Rattle.ifds_model.specs.State.{At}
+use Rattle.clean_base.specs.Lists.{At}
 use Rattle.jimple_tree.specs.Bodies.{bodied}
+use Rattle.jimple_tree.specs.Signatures.{sig_of}
 use Rattle.jimple_tree.specs.declared.tree.Class.{Class}
 use Rattle.jimple_tree.specs.declared.tree.Method.{Method}
 use Rattle.jimple_tree.specs.declared.tree.Sig.{Sig}
 use Rattle.source_sink.specs.Lists.{Says}
 use Rattle.source_sink.specs.declared.line.Line.{Line}
-
--- the signature of a method of the class
-abbrev pub sig_of : Class → Method → Sig
-sig_of class m = record { class = class.name; result = m.result; name = m.name; params = m.params }
 
 -- the signature is that of the class's method with this number; a method without a body has none
 abbrev pub IsMethod : Class → Sig → MethodId → Type 0
@@ -23,12 +20,12 @@ supertypes class = class.extends ++ class.implements
 
 -- some line says so of a call of this signature: of the signature itself, and, where its class is the one that is
 -- given, of the same signature in a supertype
-abbrev pub IsKind : Class → List Line → Sig → (Line → Bool) → Type 0
-IsKind class lines sig does = Says lines sig does
+abbrev pub IsKindInClass : Class → List Line → Sig → (Line → Bool) → Type 0
+IsKindInClass class lines sig does = Says lines sig does
     ⊎ ((sig.class ≡ class.name) × ((name : List ℕ) × Contains (supertypes class) name × Says lines (record sig { class = name }) does))
 
 -- a call of this signature is of the program's method with this number, and the list says neither source nor sink
-pub record IsOpen (class : Class) (lines : List Line) (sig : Sig) (n : MethodId) : Type 0 where
+pub record IsOpenInClass (class : Class) (lines : List Line) (sig : Sig) (n : MethodId) : Type 0 where
   pub names : IsMethod class sig n
-  pub no_source : IsKind class lines sig (λ (l : Line). l.source) → ⊥
-  pub no_sink : IsKind class lines sig (λ (l : Line). l.sink) → ⊥
+  pub no_source : IsKindInClass class lines sig (λ (l : Line). l.source) → ⊥
+  pub no_sink : IsKindInClass class lines sig (λ (l : Line). l.sink) → ⊥

@@ -3,7 +3,7 @@
 use Rattle.std.specs.Prelude.{◌≡◌, ◌↔◌, ◌⊎◌, ◌<◌, ◌≤◌, ◌+◌, ℕ, List, length, map, Contains}
 use Rattle.std.specs.List.Sorted.{IsStrictlyIncreasing}
 use Rattle.clean_base.specs.declared.ids.StmtId.{StmtId}
-use Rattle.ifds_model.specs.State.{At}
+use Rattle.clean_base.specs.Lists.{At}
 use Rattle.jimple_tree.specs.Labels.{targets_of}
 use Rattle.jimple_tree.specs.declared.tree.Body.{Body}
 use Rattle.jimple_tree.specs.declared.tree.Catch.{Catch}

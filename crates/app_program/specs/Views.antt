@@ -17,7 +17,7 @@ use Rattle.taint_problem.specs.declared.code.CallView.{CallView}
 use Rattle.taint_problem.specs.declared.code.View.{View}
 use Rattle.taint_problem.specs.declared.code.View.TheVariants.{Copy, Kill, Combine, Call, Return, Other}
 use Rattle.taint_problem.specs.declared.fact.Base.TheVariants as bases
-use Rattle.app_program.specs.Calls.{IsKind, IsOpen}
+use Rattle.app_program.specs.Calls.{IsKindInClass, IsOpenInClass}
 
 -- the local of an operand
 abbrev pub local_of : Imm → Option LocalId
@@ -34,12 +34,12 @@ module _ (class : Class) (lines : List Line) where
   pub record IsCallView (result : Option LocalId) (invoke : Invoke) (view : CallView) : Type 0 where
     pub result_is : view.result ≡ result
     pub args_are : view.args ≡ map local_of invoke.args
-    pub source_says : IsTrue view.source ↔ IsKind class lines invoke.sig (λ (l : Line). l.source)
-    pub sink_says : IsTrue view.sink ↔ IsKind class lines invoke.sig (λ (l : Line). l.sink)
-    pub target_is : (n : MethodId) → (view.target ≡ Some n) ↔ IsOpen class lines invoke.sig n
+    pub source_says : IsTrue view.source ↔ IsKindInClass class lines invoke.sig (λ (l : Line). l.source)
+    pub sink_says : IsTrue view.sink ↔ IsKindInClass class lines invoke.sig (λ (l : Line). l.sink)
+    pub target_is : (n : MethodId) → (view.target ≡ Some n) ↔ IsOpenInClass class lines invoke.sig n
 
-  abbrev pub IsCall : Option LocalId → Invoke → View → Type 0
-  IsCall result invoke view = (call : CallView) × IsCallView result invoke call × (view ≡ Call call)
+  abbrev pub IsViewOfCall : Option LocalId → Invoke → View → Type 0
+  IsViewOfCall result invoke view = (call : CallView) × IsCallView result invoke call × (view ≡ Call call)
 
   -- the view of an assignment to a local, which is killed where no local is passed on to it
   abbrev pub IsAssignment : LocalId → Rhs → View → Type 0
@@ -47,14 +47,14 @@ module _ (class : Class) (lines : List Line) where
   IsAssignment to (rhss.Cast type (imms.Local from)) view = view ≡ Copy to (bases.Local from)
   IsAssignment to (rhss.Neg value) view = view ≡ Combine to (local_of value) None
   IsAssignment to (rhss.Binary op left right) view = view ≡ Combine to (local_of left) (local_of right)
-  IsAssignment to (rhss.Call invoke) view = IsCall (Some to) invoke view
+  IsAssignment to (rhss.Call invoke) view = IsViewOfCall (Some to) invoke view
   IsAssignment to _ view = view ≡ Kill to
 
   abbrev pub IsView : Stmt → View → Type 0
   IsView (stmts.Identity to (given.Param n type)) view = view ≡ Copy to (bases.Param n)
   IsView (stmts.Identity to _) view = view ≡ Kill to
   IsView (stmts.Assign (places.Local to) rhs) view = IsAssignment to rhs view
-  IsView (stmts.Call invoke) view = IsCall None invoke view
+  IsView (stmts.Call invoke) view = IsViewOfCall None invoke view
   IsView (stmts.Return value) view = view ≡ Return (given_by value)
   IsView _ view = view ≡ Other
 

@@ -1,17 +1,19 @@
 // What calls are: the method that a signature names, and what the list says of it (docs/FLOW-RULES.md, "Calls"). The
 // index of methods stands below; the views of statements above.
-ghost use Rattle.std.specs.Prelude.{◌≡◌, ◌≤◌, ◌↔◌, ◌⊎◌, IfOk, IfSome, IfNone, IsTrue, length, Some};
+ghost use Rattle.std.specs.Prelude.{◌≡◌, ◌≤◌, ◌↔◌, ◌⊎◌, IfOk, IfSome, IfNone, IsTrue, map, Some};
 ghost use Rattle.clean_base.specs.declared.ids.MethodId.{MethodId};
 ghost use Rattle.jimple_tree.specs.Bodies.{IsWithin, bodied};
 ghost use Rattle.source_sink.specs.declared.line.Line.{Line};
-ghost use Rattle.app_program.specs.Calls.{IsMethod, IsKind};
-ghost use Rattle.app_program.specs.Index.{ArePlaces, IsIndex};
+ghost use Rattle.app_program.specs.Calls.{IsMethod, IsKindInClass};
+ghost use Rattle.name_index.specs.Index.{IsIndex};
+ghost use Rattle.app_program.specs.Index.{ArePlaces, name_of};
 ghost use Rattle.app_program.specs.Kinds.{SaysAmong};
 
-use crate::index::{Index, index_of, method_at, places_of};
+use crate::index::{index_of, method_at, places_of};
 use clean_base::{MethodId, Name};
 use jimple_tree::{Class, Sig};
-use source_sink::{Kind, Lists};
+use name_index::NameIndex;
+use source_sink::{Kind, Lists, either};
 use std::alloc::{AllocError, Global};
 use std::marker::Model;
 
@@ -21,35 +23,25 @@ pub struct Scope<'a> {
     pub class: &'a Class,
     pub lists: &'a Lists,
     places: Vec<usize>,
-    index: Index,
+    index: NameIndex,
 }
 
 impl<'a> Model for Scope<'a> {
-    ghost use Rattle.std.specs.Prelude.{length};
+    ghost use Rattle.std.specs.Prelude.{map};
     ghost use Rattle.jimple_tree.specs.Bodies.{IsWithin, bodied};
-    ghost use Rattle.app_program.specs.Index.{ArePlaces, IsIndex};
+    ghost use Rattle.name_index.specs.Index.{IsIndex};
+    ghost use Rattle.app_program.specs.Index.{ArePlaces, name_of};
     ghost use Rattle.app_program.specs.Known.{Known};
 
     ghost Value = { Known };
 
     ghost view = { λ s. record { class = s.class.now; lines = s.lists.now } };
 
-    ghost invariant = { λ s. IsWithin s.class.now × ArePlaces s.class.now.methods (bodied s.class.now.methods) s.places.items × IsIndex (bodied s.class.now.methods) (length (bodied s.class.now.methods)) s.index };
-}
-
-// What one of two kinds says.
-fn either(one: Kind, other: Kind) -> Kind
-    ensures source { IsTrue result.source ↔ (IsTrue one.source ⊎ IsTrue other.source) }
-    ensures sink { IsTrue result.sink ↔ (IsTrue one.sink ⊎ IsTrue other.sink) }
-{
-    Kind {
-        source: one.source || other.source,
-        sink: one.sink || other.sink,
-    }
+    ghost invariant = { λ s. IsWithin s.class.now × ArePlaces s.class.now.methods (bodied s.class.now.methods) s.places.items × IsIndex (map name_of (bodied s.class.now.methods)) s.index };
 }
 
 // The kind, and what the lists say of the signature in each of these classes.
-fn with_classes(kind: Kind, lists: &Lists, classes: &[Name], sig: &Sig) -> Kind
+fn with_supertypes(kind: Kind, lists: &Lists, classes: &[Name], sig: &Sig) -> Kind
     ensures source { IsTrue result.source ↔ (IsTrue kind.source ⊎ SaysAmong lists.now classes.now sig.now (λ (l : Line). l.source)) }
     ensures sink { IsTrue result.sink ↔ (IsTrue kind.sink ⊎ SaysAmong lists.now classes.now sig.now (λ (l : Line). l.sink)) }
 {
@@ -61,24 +53,21 @@ fn with_classes(kind: Kind, lists: &Lists, classes: &[Name], sig: &Sig) -> Kind
 }
 
 // The method of the class that the signature names, where it has a body.
-fn find(class: &Class, places: &[usize], index: &Index, sig: &Sig) -> Option<MethodId>
+fn find(class: &Class, places: &[usize], index: &NameIndex, sig: &Sig) -> Option<MethodId>
     requires within { IsWithin class.now }
     requires places { ArePlaces class.now.methods (bodied class.now.methods) places.now }
-    requires index { IsIndex (bodied class.now.methods) (length (bodied class.now.methods)) index.now }
+    requires index { IsIndex (map name_of (bodied class.now.methods)) index.now }
     ensures { (n : MethodId) → (result ≡ Some n) ↔ IsMethod class.now sig.now n }
 {
     if sig.class != class.name {
         return None;
     }
     let methods = class.methods.as_slice();
-    let earlier = index.earlier.as_slice();
-    let mut next = index.last.get(&sig.name).copied();
-    'named: while let Some(number) = next {
-        let method = method_at(methods, places, number);
+    for number in index.places(&sig.name) {
+        let method = method_at(methods, places, *number);
         if method.is_named(&class.name, sig) {
-            return Some(MethodId(number as u32));
+            return Some(MethodId(*number as u32));
         }
-        next = earlier[number];
     }
     None
 }
@@ -108,15 +97,15 @@ impl<'a> Scope<'a> {
 
     /// What the lists say of a call.
     pub fn kind_of(&self, sig: &Sig) -> Kind
-        ensures source { IsTrue result.source ↔ IsKind self.now.class self.now.lines sig.now (λ (l : Line). l.source) }
-        ensures sink { IsTrue result.sink ↔ IsKind self.now.class self.now.lines sig.now (λ (l : Line). l.sink) }
+        ensures source { IsTrue result.source ↔ IsKindInClass self.now.class self.now.lines sig.now (λ (l : Line). l.source) }
+        ensures sink { IsTrue result.sink ↔ IsKindInClass self.now.class self.now.lines sig.now (λ (l : Line). l.sink) }
     {
         let own = self.lists.kind(&sig.class, sig);
         if sig.class != self.class.name {
             return own;
         }
-        let extended = with_classes(own, self.lists, self.class.extends.as_slice(), sig);
-        with_classes(extended, self.lists, self.class.implements.as_slice(), sig)
+        let extended = with_supertypes(own, self.lists, self.class.extends.as_slice(), sig);
+        with_supertypes(extended, self.lists, self.class.implements.as_slice(), sig)
     }
 
     /// The method of the class that the signature names, where it has a body.

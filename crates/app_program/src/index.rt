@@ -1,29 +1,15 @@
-// Finds the methods of a class by their name. Trees of classes stand below; `calls` stands above.
-ghost use Rattle.std.specs.Prelude.{◌≡◌, ◌<◌, ◌++◌, ◌∷◌, [], cond, is_some, length, slice_index_or, IfOk, OnOk};
-ghost use Rattle.ifds_model.specs.State.{At};
+// Finds the methods of a class by their name. Trees of classes and the index of names stand below;
+// `calls` stands above.
+ghost use Rattle.std.specs.Prelude.{◌≡◌, ◌<◌, ◌++◌, ◌∷◌, [], cond, is_some, length, map, slice_index_or, IfOk, OnOk};
+ghost use Rattle.clean_base.specs.Lists.{At};
 ghost use Rattle.jimple_tree.specs.Bodies.{bodied};
 ghost use Rattle.jimple_tree.specs.declared.tree.Method.{Method};
-ghost use Rattle.app_program.specs.Index.{ArePlaces, IsIndex};
+ghost use Rattle.name_index.specs.Index.{IsIndex};
+ghost use Rattle.app_program.specs.Index.{ArePlaces, name_of};
 
-use clean_base::Name;
 use jimple_tree::{Body, Method};
+use name_index::NameIndex;
 use std::alloc::{AllocError, Global};
-use std::collections::HashMap;
-
-/// For each name the number of the last method that has it, and for each method the number of the method before it
-/// that has the same one.
-#[derive(Debug, Drop)]
-pub struct Index {
-    pub last: HashMap<Name, usize>,
-    pub earlier: Vec<Option<usize>>,
-}
-
-// A copy of the name.
-fn copied(alloc: Global, name: &Name) -> Result<Name, AllocError>
-    ensures { IfOk result (λ n. n ≡ name.now) }
-{
-    Ok(Name::from_vec(Vec::from_slice(alloc, name.bytes())?))
-}
 
 // Adds the place of a method, where it has a body.
 fn add_place(places: &mut Vec<usize>, body: &Option<Body>, place: usize) -> Result<(), AllocError>
@@ -67,18 +53,19 @@ pub fn method_at<'a>(methods: &'a [Method], places: &[usize], number: usize) -> 
     &methods[place]
 }
 
-/// The index of the methods at these places.
-pub fn index_of(alloc: Global, methods: &[Method], places: &[usize]) -> Result<Index, AllocError>
+/// The index of the methods at these places by their names.
+pub fn index_of(
+    alloc: Global,
+    methods: &[Method],
+    places: &[usize],
+) -> Result<NameIndex, AllocError>
     requires { ArePlaces methods.now (bodied methods.now) places.now }
-    ensures { IfOk result (λ index. IsIndex (bodied methods.now) (length (bodied methods.now)) index) }
+    ensures { IfOk result (IsIndex (map name_of (bodied methods.now))) }
 {
-    let mut last = HashMap::new(alloc);
-    let mut earlier = Vec::new(alloc);
+    let mut index = NameIndex::new(alloc);
     for number in 0..places.len() {
         let method = method_at(methods, places, number);
-        let name = copied(alloc, &method.name)?;
-        let before = last.insert(name, number)?;
-        earlier.push(before)?;
+        index.add(alloc, &method.name, number)?;
     }
-    Ok(Index { last, earlier })
+    Ok(index)
 }

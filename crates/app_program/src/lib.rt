@@ -7,8 +7,6 @@ mod index;
 mod nexts;
 pub mod program;
 mod successors;
-#[cfg(test)]
-mod tests;
 mod views;
 
 pub use program::{Program, assemble};

@@ -1,8 +1,9 @@
 // The successors of all statements of a body, and of all methods. Where one statement leads stands below; programs above.
 ghost use Rattle.std.specs.Prelude.{◌≡◌, ◌↔◌, ◌⊎◌, ◌<◌, ◌≤◌, ◌+◌, ◌^◌, ◌++◌, ◌∷◌, [], ℕ, List, All, Contains, IfOk, OnOk, length, map, slice_index_or, slice_set};
 ghost use Rattle.std.specs.List.Sorted.{IsStrictlyIncreasing};
+ghost use Rattle.clean_base.specs.Limits.{most_stmts};
 ghost use Rattle.clean_base.specs.declared.ids.StmtId.{StmtId};
-ghost use Rattle.ifds_model.specs.State.{At};
+ghost use Rattle.clean_base.specs.Lists.{At};
 ghost use Rattle.jimple_tree.specs.Bodies.{body_stmts, all_stmts};
 ghost use Rattle.jimple_tree.specs.WellFormed.{BodyFits, MethodFits, OptionalBodyFits};
 ghost use Rattle.jimple_tree.specs.declared.tree.Catch.{Catch};
@@ -17,7 +18,7 @@ use std::alloc::{AllocError, Global};
 
 // For each statement where it leads itself.
 fn own_lists(alloc: Global, stmts: &[Stmt]) -> Result<Vec<Places>, AllocError>
-    requires { length stmts.now ≤ 4194304 }
+    requires { length stmts.now ≤ most_stmts }
     ensures len { IfOk result (λ v. length v.items ≡ length stmts.now) }
     ensures own { IfOk result (λ v. (s t : ℕ) (stmt : Stmt) → At stmts.now s stmt → Contains (slice_index_or v.items s []) t ↔ IsOwn stmt (length stmts.now) s t) }
 {
@@ -60,7 +61,7 @@ fn add_catches(lists: &mut [Places], catches: &[Catch]) -> Result<(), AllocError
 // For each statement of a body where it leads.
 fn lists_of(alloc: Global, body: &Body) -> Result<Vec<Places>, AllocError>
     requires fits { BodyFits body.now }
-    requires few { length body.now.stmts ≤ 4194304 }
+    requires few { length body.now.stmts ≤ most_stmts }
     ensures len { IfOk result (λ v. length v.items ≡ length body.now.stmts) }
     ensures exact { IfOk result (λ v. (s t : ℕ) → s < length body.now.stmts → Contains (slice_index_or v.items s []) t ↔ Succ body.now s t) }
 {
@@ -94,7 +95,7 @@ fn in_order(alloc: Global, places: &Places, first: usize) -> Result<Seq<StmtId>,
 // Adds the successors of the statements of a body, behind those of the statements before them.
 fn add_nexts(alloc: Global, body: &Body, nexts: &mut Vec<Seq<StmtId>>) -> Result<(), AllocError>
     requires fits { BodyFits body.now }
-    requires few { length nexts.old.items + length body.now.stmts ≤ 4194304 }
+    requires few { length nexts.old.items + length body.now.stmts ≤ most_stmts }
     ensures { OnOk result ((more : List (List StmtId)) × AreNextsOf body.now (length nexts.old.items) more × (nexts.new.items ≡ nexts.old.items ++ more)) }
 {
     let first = nexts.len();
@@ -112,7 +113,7 @@ fn add_method(
     nexts: &mut Vec<Seq<StmtId>>,
 ) -> Result<(), AllocError>
     requires fits { OptionalBodyFits body.now }
-    requires few { length nexts.old.items + length (body_stmts body.now) ≤ 4194304 }
+    requires few { length nexts.old.items + length (body_stmts body.now) ≤ most_stmts }
     ensures { OnOk result ((more : List (List StmtId)) × AreOf (length nexts.old.items) body.now more × (nexts.new.items ≡ nexts.old.items ++ more)) }
 {
     match body {
@@ -124,7 +125,7 @@ fn add_method(
 /// The successors of all statements, method by method.
 pub fn nexts_of(alloc: Global, methods: &[Method]) -> Result<Vec<Seq<StmtId>>, AllocError>
     requires fits { All MethodFits methods.now }
-    requires few { length (all_stmts methods.now) ≤ 4194304 }
+    requires few { length (all_stmts methods.now) ≤ most_stmts }
     ensures { IfOk result (λ v. AreNexts 0 methods.now v.items) }
 {
     let mut nexts = Vec::new(alloc);

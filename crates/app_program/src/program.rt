@@ -1,6 +1,7 @@
 // From a class and a list to a program. Calls and the views of statements stand below.
 ghost use Rattle.std.specs.Prelude.{◌≡◌, ◌<◌, ◌≤◌, List, length, IfOk, IfErr, OnOk, ◌++◌, replicate};
-ghost use Rattle.jimple_tree.specs.Bodies.{IsWithin, bodied, body_stmts, all_stmts};
+ghost use Rattle.clean_base.specs.Limits.{most_methods, most_stmts};
+ghost use Rattle.jimple_tree.specs.Bodies.{IsWithin, bodied, all_stmts};
 ghost use Rattle.taint_problem.specs.Code.{IsWhole};
 ghost use Rattle.app_program.specs.Index.{ArePlaces};
 ghost use Rattle.app_program.specs.Program.{IsProgram, NoProgram, AreNexts, owners_from, firsts_from};
@@ -12,7 +13,7 @@ use crate::index::method_at;
 use crate::nexts::nexts_of;
 use crate::views::add_views;
 use clean_base::{InputFault, MethodId, Seq, StmtId, Stop};
-use jimple_tree::{Body, Class, Method, Sig, Stmt};
+use jimple_tree::{Class, Method, Sig, stmts_of};
 use source_sink::Lists;
 use std::alloc::{AllocError, Global};
 use taint_problem::{Code, View};
@@ -24,23 +25,13 @@ pub struct Program {
     pub root: MethodId,
 }
 
-// The statements of a method.
-fn stmts_of(body: &Option<Body>) -> &[Stmt]
-    ensures { result.now ≡ body_stmts body.now }
-{
-    match body {
-        Some(body) => body.stmts.as_slice(),
-        None => &[],
-    }
-}
-
 // The views of all statements, method by method.
 fn views_of(alloc: Global, scope: &Scope<'_>, methods: &[Method]) -> Result<Vec<View>, AllocError>
     ensures { IfOk result (λ v. AreViews scope.now.class scope.now.lines (all_stmts methods.now) v.items) }
 {
     let mut views = Vec::new(alloc);
     for method in methods {
-        add_views(alloc, scope, stmts_of(&method.body), &mut views)?;
+        add_views(alloc, scope, stmts_of(method), &mut views)?;
     }
     Ok(views)
 }
@@ -62,13 +53,13 @@ fn owners_of(
     places: &[usize],
 ) -> Result<Vec<MethodId>, AllocError>
     requires places { ArePlaces methods.now (bodied methods.now) places.now }
-    requires few { length (bodied methods.now) ≤ 32768 }
+    requires few { length (bodied methods.now) ≤ most_methods }
     ensures { IfOk result (λ v. v.items ≡ owners_from 0 (bodied methods.now)) }
 {
     let mut owners = Vec::new(alloc);
     for number in 0..places.len() {
         let method = method_at(methods, places, number);
-        let count = stmts_of(&method.body).len();
+        let count = stmts_of(method).len();
         add_owner(&mut owners, MethodId(number as u32), count)?;
     }
     Ok(owners)
@@ -77,7 +68,7 @@ fn owners_of(
 // For each method with a body its first statement.
 fn firsts_of(alloc: Global, methods: &[Method], places: &[usize]) -> Result<Vec<StmtId>, AllocError>
     requires places { ArePlaces methods.now (bodied methods.now) places.now }
-    requires few { length (all_stmts methods.now) ≤ 4194304 }
+    requires few { length (all_stmts methods.now) ≤ most_stmts }
     ensures { IfOk result (λ v. v.items ≡ firsts_from 0 (bodied methods.now)) }
 {
     let mut firsts = Vec::new(alloc);
@@ -85,7 +76,7 @@ fn firsts_of(alloc: Global, methods: &[Method], places: &[usize]) -> Result<Vec<
     for number in 0..places.len() {
         let method = method_at(methods, places, number);
         firsts.push(StmtId(before as u32))?;
-        before += stmts_of(&method.body).len();
+        before += stmts_of(method).len();
     }
     Ok(firsts)
 }

@@ -1,8 +1,9 @@
 // Where statements lead in their body (docs/FLOW-RULES.md, "Successors"). Trees of classes stand below; programs above.
 ghost use Rattle.std.specs.Prelude.{◌≡◌, ◌↔◌, ◌⊎◌, ◌<◌, ◌≤◌, ◌+◌, ◌++◌, ◌∷◌, [], ℕ, List, All, Contains, IfOk, IsTrue, OnOk, length, map, slice_index_or, slice_set};
 ghost use Rattle.std.specs.List.Sorted.{IsStrictlyIncreasing};
+ghost use Rattle.clean_base.specs.Limits.{most_stmts};
 ghost use Rattle.clean_base.specs.declared.ids.StmtId.{StmtId};
-ghost use Rattle.ifds_model.specs.State.{At};
+ghost use Rattle.clean_base.specs.Lists.{At};
 ghost use Rattle.jimple_tree.specs.Labels.{targets_of};
 ghost use Rattle.jimple_tree.specs.WellFormed.{BodyFits};
 ghost use Rattle.jimple_tree.specs.declared.tree.Case.{Case};
@@ -98,7 +99,7 @@ fn add_targets(places: &mut Places, stmt: &Stmt) -> Result<(), AllocError>
 
 // Adds the place behind a statement, of so many, where it goes on there.
 fn add_next(places: &mut Places, stmt: &Stmt, place: usize, count: usize) -> Result<(), AllocError>
-    requires few { count ≤ 4194304 }
+    requires few { count ≤ most_stmts }
     requires place { place < count }
     ensures { OnOk result ((t : ℕ) → Contains places.new t ↔ (Contains places.old t ⊎ (GoesOn stmt.now × (t ≡ place + 1) × (t < count)))) }
 {
@@ -120,7 +121,7 @@ pub fn own_places(
     place: usize,
     count: usize,
 ) -> Result<Places, AllocError>
-    requires few { count ≤ 4194304 }
+    requires few { count ≤ most_stmts }
     requires place { place < count }
     ensures { IfOk result (λ v. (t : ℕ) → Contains v t ↔ IsOwn stmt.now count place t) }
 {
@@ -155,7 +156,7 @@ fn add_handlers(places: &mut Places, catches: &[Catch], place: u32) -> Result<()
 
 /// The successors of the statement at a place of a body, in order.
 pub fn next_places(alloc: Global, body: &Body, place: u32) -> Result<Vec<u32>, AllocError>
-    requires few { length body.now.stmts ≤ 4194304 }
+    requires few { length body.now.stmts ≤ most_stmts }
     requires place { place < length body.now.stmts }
     ensures sorted { IfOk result (λ v. IsStrictlyIncreasing v.items) }
     ensures exact { IfOk result (λ v. (t : ℕ) → Contains v.items t ↔ Succ body.now place t) }

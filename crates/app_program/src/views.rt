@@ -1,7 +1,7 @@
 // How the flow rules see statements (docs/FLOW-RULES.md, "Calls"). What calls are stands below; programs above.
 ghost use Rattle.std.specs.Prelude.{◌≡◌, ◌++◌, List, IfOk, OnOk, map};
 ghost use Rattle.taint_problem.specs.declared.code.View.{View};
-ghost use Rattle.app_program.specs.Views.{local_of, given_by, IsCall, IsAssignment, IsView, AreViews};
+ghost use Rattle.app_program.specs.Views.{local_of, given_by, IsViewOfCall, IsAssignment, IsView, AreViews};
 
 use crate::calls::Scope;
 use clean_base::{LocalId, Seq};
@@ -44,7 +44,7 @@ fn call_view(
     to: Option<LocalId>,
     invoke: &Invoke,
 ) -> Result<View, AllocError>
-    ensures { IfOk result (λ view. IsCall scope.now.class scope.now.lines to invoke.now view) }
+    ensures { IfOk result (λ view. IsViewOfCall scope.now.class scope.now.lines to invoke.now view) }
 {
     let kind = scope.kind_of(&invoke.sig);
     let target = scope.target_of(&invoke.sig, kind);

@@ -11,20 +11,9 @@ ghost use Rattle.call_graph.specs.Calls.{IsKind, IsOpenTo, IsTarget};
 use class_table::ClassTable;
 use clean_base::{ClassId, MethodId};
 use jimple_tree::{Invoke, InvokeKind, Sig};
-use source_sink::{Kind, Lists};
+use source_sink::{Kind, Lists, either};
 use std::alloc::{AllocError, Global};
 use std::slice;
-
-// What one of two kinds says.
-fn either(one: Kind, other: Kind) -> Kind
-    ensures source { IsTrue result.source ↔ (IsTrue one.source ⊎ IsTrue other.source) }
-    ensures sink { IsTrue result.sink ↔ (IsTrue one.sink ⊎ IsTrue other.sink) }
-{
-    Kind {
-        source: one.source || other.source,
-        sink: one.sink || other.sink,
-    }
-}
 
 // The kind, and what the lists say of the signature in the classes with these numbers.
 fn with_classes(kind: Kind, table: &ClassTable, lists: &Lists, numbers: &[u32], sig: &Sig) -> Kind

@@ -8,6 +8,7 @@ ghost use Rattle.call_graph.specs.Calls.{call_in};
 ghost use Rattle.call_graph.specs.Floods.{IsCallAt, IsCallIn, IsMet, IsMore, IsTargetIn, edge_to};
 ghost use Rattle.call_graph.specs.Graphs.{Calls, IsCall, IsCallGraph};
 ghost use Rattle.call_graph.specs.declared.edges.CallEdge.{CallEdge};
+ghost use Rattle.call_graph.specs.declared.edges.CallGraph.{CallGraph};
 
 use crate::calls::{in_order, open_targets};
 use class_table::ClassTable;
@@ -204,7 +205,7 @@ fn edges_in_order(edges: Vec<CallEdge>) -> Vec<CallEdge>
     edges
 }
 
-/// The graph of the open calls from the root on.
+/// The graph of the open calls from the root on, which is the only one.
 pub fn graph(
     alloc: Global,
     table: &ClassTable,
@@ -212,7 +213,8 @@ pub fn graph(
     root: MethodId,
 ) -> Result<CallGraph, AllocError>
     requires { root.0 < length (all_methods table.now) }
-    ensures { IfOk result (IsCallGraph table.now lists.now root) }
+    ensures graph { IfOk result (IsCallGraph table.now lists.now root) }
+    ensures only { IfOk result (λ g. (other : CallGraph) → IsCallGraph table.now lists.now root other → other ≡ g) }
 {
     let mut met = none_met(alloc, table.methods() as usize)?;
     let flooded = flood(alloc, table, lists, root, met.as_mut_slice())?;

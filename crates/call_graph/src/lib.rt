@@ -4,8 +4,6 @@
 
 mod calls;
 pub mod edges;
-#[cfg(test)]
-mod tests;
 
 pub use calls::{kind_of, targets};
 pub use edges::{CallEdge, CallGraph, graph};

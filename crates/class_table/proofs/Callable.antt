@@ -10,9 +10,10 @@ use Rattle.jimple_tree.specs.declared.tree.Sig.{Sig}
 use Rattle.class_table.specs.Faults.{HaveNames}
 use Rattle.class_table.specs.Firsts.{LacksAt, HasAt}
 use Rattle.class_table.specs.Hierarchy.{class_names, given}
-use Rattle.class_table.specs.Index.{HasSignature, IsMethodAt}
+use Rattle.jimple_tree.specs.Signatures.{HasSignature}
+use Rattle.class_table.specs.Index.{IsMethodAt}
 use Rattle.class_table.specs.Links.{name_at}
-use Rattle.class_table.specs.Methods.{sig_of}
+use Rattle.jimple_tree.specs.Signatures.{sig_of}
 use Rattle.class_table.specs.Resolving.{HasCallable, MayBeCalled}
 use Rattle.class_table.proofs.Exact.{class_there, own_name, well_formed}
 use Rattle.class_table.proofs.Named.{given_is, given_own}

@@ -9,7 +9,8 @@ use Rattle.jimple_tree.specs.declared.tree.Method.{Method}
 use Rattle.jimple_tree.specs.declared.tree.Sig.{Sig}
 use Rattle.class_table.specs.Faults.{HaveNames}
 use Rattle.class_table.specs.Hierarchy.{class_names}
-use Rattle.class_table.specs.Index.{IsMethodAt, HasSignature}
+use Rattle.jimple_tree.specs.Signatures.{HasSignature}
+use Rattle.class_table.specs.Index.{IsMethodAt}
 use Rattle.class_table.specs.Members.{AreMembers, ArePlaces, IsNumbered, StandsAt, method_id}
 use Rattle.class_table.specs.Methods.{all_methods, IsDeclared, IsNumber}
 use Rattle.class_table.specs.declared.members.ClassMembers.{ClassMembers}

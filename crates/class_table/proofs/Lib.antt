@@ -4,8 +4,8 @@ pub mod Callable
 pub mod Concretes
 pub mod Doubles
 pub mod Exact
+pub mod Faulty
 pub mod Firsts
-pub mod Indexed
 pub mod Linked
 pub mod Linkings
 pub mod Named

@@ -1,64 +1,17 @@
--- The methods of one name, from the last to the first, and the one of a signature.
-use Rattle.std.proofs.Common.{◌≡◌, ◌⊎◌, ◌↔◌, ◌<◌, ◌≤◌, ◌+◌, ℕ, List, length, get_or, Some, None, sym, ap, subst, ◌∙◌, inl, inr, arith}
-use Rattle.std.specs.Prelude.{Option}
-use Rattle.std.proofs.lemmas.List.{get_or_default}
+-- The method of a class that has a signature.
+use Rattle.std.proofs.Common.{◌≡◌, ◌⊎◌, ◌↔◌, ◌<◌, ◌≤◌, ◌+◌, ℕ, List, [], ◌∷◌, ◌++◌, length, get_or, map, take, Some, None, sym, ap, subst, ◌∙◌, inl, inr, arith}
+use Rattle.std.specs.Prelude.{Contains, Option}
+use Rattle.std.proofs.lemmas.List.{get_or_default, take_all, take_more}
+use Rattle.std.proofs.lemmas.List.Elements.{Contains-push_cases}
 use Rattle.std.proofs.lemmas.Option.{same_Some}
 use Rattle.clean_base.specs.Lists.{At}
 use Rattle.jimple_tree.specs.declared.tree.Class.{Class}
 use Rattle.jimple_tree.specs.declared.tree.Method.{Method}
 use Rattle.jimple_tree.specs.declared.tree.Sig.{Sig}
 use Rattle.jimple_tree.specs.WellFormed.{AreDistinct, IsWellFormed, method_key}
-use Rattle.class_table.specs.declared.index.Index.{Index}
-use Rattle.class_table.specs.Index.{HasNone, IsLast, IsIndex, HasSignature, IsMethodAt}
-
--- no method from there on has the signature
-abbrev pub NoneFrom : List Method → Sig → ℕ → Type 0
-NoneFrom methods sig from = (k : ℕ) (m : Method) → from ≤ k → k < length methods → get_or methods k m ≡ m → HasSignature sig m → ⊥
-
-pub none_yet : (methods : List Method) (sig : Sig) → NoneFrom methods sig (length methods)
-none_yet methods sig k m above below is same = absurd (omega (arith, above, below))
-
-place_cases : (k j from : ℕ) → j ≤ k → (k ≡ j) ⊎ ((j + 1 ≤ k) × (k < from)) ⊎ (from ≤ k)
-place_cases k j from h = grind arith
-
-name_of : (sig : Sig) (m : Method) → HasSignature sig m → m.name ≡ sig.name
-name_of sig m same = ap (λ (s : Sig). s.name) (sym same)
-
--- the method isn't it, and those between have other names
-pub none_before : (methods : List Method) (sig : Sig) (j from : ℕ) (method : Method) → j < length methods → NoneFrom methods sig from → HasNone methods sig.name (j + 1) from
-    → method ≡ get_or methods j method → (HasSignature sig method → ⊥) → NoneFrom methods sig j
-none_before methods sig j from method within later between is other k m above below at same = elim (place_cases k j from above) [
-  | inl here ↦
-      let one : m ≡ method = sym at ∙ ap (λ (i : ℕ). get_or methods i m) here ∙ get_or_default methods j m method within ∙ sym is in
-      other (subst (HasSignature sig) one same)
-  | inr (inl middle) ↦ between k m middle.0 middle.1 (ap (λ (x : Method). x.name) at ∙ name_of sig m same)
-  | inr (inr high) ↦ later k m high below at same
-]
-
--- no more methods of the name are left
-pub none_at_all : (methods : List Method) (sig : Sig) (from : ℕ) → NoneFrom methods sig from → HasNone methods sig.name 0 from → NoneFrom methods sig 0
-none_at_all methods sig from later none k m above below at same = elim (cases k) [
-  | inl less ↦ none k m above less (ap (λ (x : Method). x.name) at ∙ name_of sig m same)
-  | inr more ↦ later k m more below at same
-] where
-  cases : (k : ℕ) → (k < from) ⊎ (from ≤ k)
-  cases k = grind arith
-
--- no more methods than these are left
-abbrev pub left : Option ℕ → ℕ
-left None = 0
-left (Some j) = j + 1
-
-pub fewer : (methods : List Method) (name : List ℕ) (j : ℕ) (next : Option ℕ) → IsLast methods name j next → left next < j + 1
-fewer methods name j None h = omega arith
-fewer methods name j (Some k) h = let below = h.0 in omega (arith, below)
-
--- the next method is the last one below this of the same name
-pub next_last : (methods : List Method) (earlier : List (Option ℕ)) (index : Index) → earlier ≡ index.earlier.items → IsIndex methods (length methods) index
-    → (name : List ℕ) (j from : ℕ) (method : Method) → j < from → from ≤ length methods → (get_or methods j method).name ≡ name → IsLast methods name j (get_or earlier j None)
-next_last methods earlier index f h name j from method below within named =
-    let told : IsLast methods (get_or methods j method).name j (get_or index.earlier.items j None) = h.earlier j method None (omega (arith, below, within)) in
-    subst (λ (xs : List (Option ℕ)). IsLast methods name j (get_or xs j None)) (sym f) (subst (λ (w : List ℕ). IsLast methods w j (get_or index.earlier.items j None)) named told)
+use Rattle.jimple_tree.specs.Signatures.{HasSignature}
+use Rattle.name_index.proofs.Named.{name_at}
+use Rattle.class_table.specs.Index.{IsMethodAt, name_of}
 
 order : (i j : ℕ) → (i < j) ⊎ (i ≡ j) ⊎ (j < i)
 order i j = grind arith
@@ -97,9 +50,30 @@ module _ (class : Class) (sig : Sig) where
     λ k. ap Some (one_key method_key class.methods formed.methods a n m k.0 h.0 k.1.0 (key_of sig m h.1 ∙ sym (key_of sig k.0 k.1.1))),
   )
 
-  -- no method was found
-  pub not_found : (at : Option ℕ) → at ≡ None → NoneFrom class.methods sig 0 → (n : ℕ) → (at ≡ Some n) ↔ Stands n
-  not_found at is none n = (
+-- none of the methods at these places has the signature
+abbrev pub NoneAmong : Class → Sig → List ℕ → Type 0
+NoneAmong class sig places = (k : ℕ) (m : Method) → Contains places k → IsMethodAt class sig k m → ⊥
+
+module _ (class : Class) (sig : Sig) where
+  pub none_yet : NoneAmong class sig []
+  none_yet k m has is = let below = has.1 in absurd (omega (arith, below))
+
+  -- nor the one at the next
+  pub none_more : (places : List ℕ) (i k : ℕ) (method : Method) → i < length places → k ≡ get_or places i 0 → At class.methods k method → (HasSignature sig method → ⊥)
+      → NoneAmong class sig (take i places) → NoneAmong class sig (take (i + 1) places)
+  none_more places i k method below is at other none j m has stands = elim (Contains-push_cases (take i places) k j (subst (λ (ns : List ℕ). Contains ns j) next has)) [
+    | inl early ↦ none j m early stands
+    | inr same ↦ other (subst (HasSignature sig) (one_item class.methods j k m method stands.0 at (sym same)) stands.1)
+  ] where
+    next : take (i + 1) places ≡ take i places ++ k ∷ []
+    next = take_more places i 0 below ∙ ap (λ (n : ℕ). take i places ++ n ∷ []) (sym is)
+
+  -- where these are all places of the signature's name, no method was found
+  pub not_found : (places : List ℕ) (i : ℕ) → length places ≤ i → ((place : ℕ) → Contains places place ↔ At (map name_of class.methods) place sig.name) → NoneAmong class sig (take i places)
+      → (at : Option ℕ) → at ≡ None → (n : ℕ) → (at ≡ Some n) ↔ ((method : Method) × IsMethodAt class sig n method)
+  not_found places i past exact none at is n = (
     λ e. absurd (none_some n (sym is ∙ e)),
-    λ k. absurd (none n k.0 (omega arith) k.1.0.0 k.1.0.1 k.1.1),
-  )
+    λ k. absurd (none n k.0 (subst (λ (ns : List ℕ). Contains ns n) (sym (take_all i places past)) ((exact n).1 (named k.0 k.1))) k.1),
+  ) where
+    named : (m : Method) → IsMethodAt class sig n m → At (map name_of class.methods) n sig.name
+    named m (at, same) = subst (At (map name_of class.methods) n) (ap (λ (s : Sig). s.name) (sym same)) (name_at name_of class.methods n m at)

@@ -1,5 +1,6 @@
 -- Which classes have a table, and the first fault of those that have none (docs/COMMANDS.md, "Refusals").
 use Rattle.std.specs.Prelude.{◌≡◌, ◌<◌, ◌≤◌, ℕ, List, ◌∷◌, ◌++◌, length, Contains}
+use Rattle.clean_base.specs.Limits.{most_classes, most_methods, most_stmts}
 use Rattle.clean_base.specs.declared.fault.InputFault.{InputFault}
 use Rattle.clean_base.specs.declared.fault.InputFault.TheVariants.{LimitClasses, DoubleClass, Cycle, LimitMethods, LimitStmts}
 use Rattle.clean_base.specs.declared.fault.Stop.{Stop}
@@ -8,16 +9,6 @@ use Rattle.jimple_tree.specs.WellFormed.{AreDistinct}
 use Rattle.jimple_tree.specs.declared.tree.Class.{Class}
 use Rattle.class_table.specs.Hierarchy.{class_names, IsOwnSupertype}
 use Rattle.class_table.specs.Methods.{all_methods, stmts_in}
-
--- the most classes that are given or named, methods with a body, and statements
-abbrev pub most_classes : ℕ
-most_classes = 65535
-
-abbrev pub most_methods : ℕ
-most_methods = 32768
-
-abbrev pub most_stmts : ℕ
-most_stmts = 4194304
 
 -- the classes in front of it have different names, and one of them has this one's
 pub record IsFirstDouble (cs : List Class) (name : List ℕ) : Type 0 where
@@ -68,3 +59,8 @@ pub data IsFault (cs : List Class) : InputFault → Type 0 where
 abbrev pub Refused : List Class → Stop → Type 0
 Refused cs (Fault f) = IsFault cs f
 Refused cs OutOfMemory = Unit {0}
+
+-- and no other fault is theirs
+abbrev pub IsOnly : List Class → Stop → Type 0
+IsOnly cs (Fault f) = (other : InputFault) → IsFault cs other → other ≡ f
+IsOnly cs OutOfMemory = Unit {0}

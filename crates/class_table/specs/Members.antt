@@ -1,10 +1,11 @@
 -- What a table keeps of the methods of its classes. The public contracts don't cite this.
-use Rattle.std.specs.Prelude.{◌≡◌, ℕ, false, List, length, is_some, Option, Some, None}
+use Rattle.std.specs.Prelude.{◌≡◌, ℕ, false, List, length, map, is_some, Option, Some, None}
 use Rattle.clean_base.specs.Lists.{At}
 use Rattle.clean_base.specs.declared.ids.MethodId.{MethodId}
 use Rattle.jimple_tree.specs.declared.tree.Class.{Class}
 use Rattle.jimple_tree.specs.declared.tree.Method.{Method}
-use Rattle.class_table.specs.Index.{IsIndex}
+use Rattle.name_index.specs.Index.{IsIndex}
+use Rattle.class_table.specs.Index.{name_of}
 use Rattle.class_table.specs.Methods.{all_methods, IsNumber}
 use Rattle.class_table.specs.declared.members.ClassMembers.{ClassMembers}
 use Rattle.class_table.specs.declared.members.Members.{Members}
@@ -24,7 +25,7 @@ pub record AreNumbers (cs : List Class) (c : Class) (numbers : List (Option Meth
   pub each : (k : ℕ) (m : Method) (number : Option MethodId) → At c.methods k m → At numbers k number → IsNumbered cs c m number
 
 pub record IsMember (cs : List Class) (c : Class) (x : ClassMembers) : Type 0 where
-  pub index : IsIndex c.methods (length c.methods) x.index
+  pub index : IsIndex (map name_of c.methods) x.index
   pub numbers : AreNumbers cs c x.numbers.items
 
 -- for each of the classes what belongs to it

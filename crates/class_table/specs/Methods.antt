@@ -1,8 +1,9 @@
--- The methods of classes: those with a body by number, and their signatures.
+-- The methods of classes with a body, by number and by signature.
 use Rattle.std.specs.Prelude.{◌≡◌, List, map, flat_map}
 use Rattle.clean_base.specs.Lists.{At}
 use Rattle.clean_base.specs.declared.ids.MethodId.{MethodId}
 use Rattle.jimple_tree.specs.Bodies.{bodied, all_stmts}
+use Rattle.jimple_tree.specs.Signatures.{sig_of}
 use Rattle.jimple_tree.specs.declared.tree.Class.{Class}
 use Rattle.jimple_tree.specs.declared.tree.Method.{Method}
 use Rattle.jimple_tree.specs.declared.tree.Sig.{Sig}
@@ -22,10 +23,6 @@ stmts_in cs = flat_map (λ (c : Class). all_stmts c.methods) cs
 -- the method of the class has this number
 abbrev pub IsNumber : List Class → MethodId → Class → Method → Type 0
 IsNumber cs n c m = At (all_methods cs) n.0 (c, m)
-
--- the signature of a method of the class
-abbrev pub sig_of : Class → Method → Sig
-sig_of c m = record { class = c.name; result = m.result; name = m.name; params = m.params }
 
 -- a method with a body is declared under this signature, and has this number
 abbrev pub IsDeclared : List Class → Sig → MethodId → Type 0

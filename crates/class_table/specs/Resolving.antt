@@ -1,12 +1,13 @@
 -- Which method a call of a class and a signature comes to (docs/FLOW-RULES.md, "Resolution").
 use Rattle.std.specs.Prelude.{◌≡◌, ◌⊎◌, ℕ, true, List, [], ◌∷◌, ◌++◌, flat_map, codes, is_some, Contains, Some, if◌then◌else◌}
 use Rattle.clean_base.specs.declared.ids.MethodId.{MethodId}
+use Rattle.jimple_tree.specs.Signatures.{sig_of}
 use Rattle.jimple_tree.specs.declared.tree.Class.{Class}
 use Rattle.jimple_tree.specs.declared.tree.Method.{Method}
 use Rattle.jimple_tree.specs.declared.tree.Sig.{Sig}
 use Rattle.reach_rows.specs.Walks.{Walk}
 use Rattle.class_table.specs.Hierarchy.{given, names_in}
-use Rattle.class_table.specs.Methods.{IsNumber, sig_of}
+use Rattle.class_table.specs.Methods.{IsNumber}
 
 -- the name after `extends` of a class that is no interface
 abbrev pub superclass : Class → List (List ℕ)

@@ -1,15 +1,12 @@
 // How many methods with a body and how many statements classes have, against the limits. Trees of classes stand below; the
 // table above.
 ghost use Rattle.std.specs.Prelude.{◌≡◌, ◌≤◌, ◌-◌, ◌^◌, ◌↔◌, IsTrue, length, min};
-ghost use Rattle.jimple_tree.specs.Bodies.{bodied, all_stmts, stmts_of};
-ghost use Rattle.class_table.specs.Faults.{most_methods, most_stmts};
+ghost use Rattle.jimple_tree.specs.Bodies.{bodied, all_stmts};
+ghost use Rattle.clean_base.specs.Limits.{most_methods, most_stmts};
 ghost use Rattle.class_table.specs.Methods.{all_methods, stmts_in};
 
-use jimple_tree::{Class, Method};
-
-const MOST_METHODS: usize = 32768;
-
-const MOST_STMTS: usize = 4194304;
+use clean_base::limits::{MOST_METHODS, MOST_STMTS};
+use jimple_tree::{Class, Method, stmts_of};
 
 // The methods with a body.
 fn bodied_in(methods: &[Method]) -> usize
@@ -35,22 +32,13 @@ fn methods_in(classes: &[Class]) -> usize
     total
 }
 
-fn stmts_of(method: &Method) -> usize
-    ensures { result ≡ length (stmts_of method.now) }
-{
-    match &method.body {
-        Some(body) => body.stmts.as_slice().len(),
-        None => 0,
-    }
-}
-
 // The statements, or the highest number where they are more.
 fn stmts_of_methods(methods: &[Method]) -> usize
     ensures { result ≡ min (length (all_stmts methods.now)) (2 ^ 64 - 1) }
 {
     let mut total: usize = 0;
     for method in methods {
-        total = total.saturating_add(stmts_of(method));
+        total = total.saturating_add(stmts_of(method).len());
     }
     total
 }

@@ -7,7 +7,6 @@ ghost use Rattle.class_table.specs.Kept.{HasLinks};
 ghost use Rattle.class_table.specs.Kinds.{IsHeadingOrder, kind_names};
 ghost use Rattle.class_table.specs.Links.{IsLink, name_at};
 
-use crate::names::copied;
 use crate::rows::{Kind, rows_of};
 use clean_base::{InputFault, Name, Seq, Stop};
 use indexmap::IndexSet;
@@ -35,8 +34,8 @@ fn cycle(alloc: Global, names: &IndexSet<Name>, classes: &[Class], number: u32) 
     requires cycle { IsFirstCycle classes.now (name_at classes.now number) }
     ensures { Refused classes.now result }
 {
-    match copied(alloc, &names.as_slice()[number as usize]) {
-        Ok(class) => Stop::Fault(InputFault::Cycle { class }),
+    match names.as_slice()[number as usize].copy(alloc) {
+        Ok(name) => Stop::Fault(InputFault::Cycle { name }),
         Err(AllocError) => Stop::OutOfMemory,
     }
 }

@@ -1,6 +1,7 @@
 // The methods of all classes by number and by signature (docs/FLOW-RULES.md, "Classes"). The methods of one class by name
 // stand below; the resolution of calls above.
 ghost use Rattle.std.specs.Prelude.{◌≡◌, ◌↔◌, ◌<◌, ◌≤◌, ◌+◌, ◌++◌, ◌∷◌, [], cond, is_some, length, take, All, IfOk, OnOk, None, Some};
+ghost use Rattle.clean_base.specs.Limits.{most_methods};
 ghost use Rattle.clean_base.specs.Lists.{At};
 ghost use Rattle.clean_base.specs.declared.ids.MethodId.{MethodId};
 ghost use Rattle.jimple_tree.specs.WellFormed.{IsWellFormed};
@@ -12,11 +13,12 @@ ghost use Rattle.class_table.specs.Hierarchy.{class_names};
 ghost use Rattle.class_table.specs.Methods.{all_methods, IsDeclared, IsNumber};
 ghost use Rattle.class_table.specs.Members.{AreMembers, AreNumbers, ArePlaces, IsMember, method_id};
 
-use crate::index::{Index, find, index_of};
+use crate::index::{find, index_of};
 use crate::names::number_of;
 use clean_base::{ClassId, MethodId, Name};
 use indexmap::IndexSet;
 use jimple_tree::{Body, Class, Method, Sig};
+use name_index::NameIndex;
 use std::alloc::{AllocError, Global};
 
 /// Where a method stands: the place of its class among the classes, and its own in that class.
@@ -29,7 +31,7 @@ pub struct Place {
 /// The methods of a class: by name, and the number of each that has a body.
 #[derive(Debug, Drop)]
 pub struct ClassMembers {
-    pub index: Index,
+    pub index: NameIndex,
     pub numbers: Vec<Option<MethodId>>,
 }
 
@@ -47,7 +49,7 @@ fn add_method(
     numbers: &mut Vec<Option<MethodId>>,
     places: &mut Vec<Place>,
 ) -> Result<(), AllocError>
-    requires { length places.old.items ≤ 32768 }
+    requires { length places.old.items ≤ most_methods }
     ensures numbers { OnOk result (numbers.new.items ≡ numbers.old.items ++ cond (is_some body.now) (Some (method_id (length places.old.items))) None ∷ []) }
     ensures places { OnOk result (places.new.items ≡ places.old.items ++ cond (is_some body.now) (place ∷ []) []) }
 {
@@ -68,7 +70,7 @@ fn number_methods(
     class: &Class,
     places: &mut Vec<Place>,
 ) -> Result<Vec<Option<MethodId>>, AllocError>
-    requires few { length (all_methods classes.now) ≤ 32768 }
+    requires few { length (all_methods classes.now) ≤ most_methods }
     requires class { At classes.now at class.now }
     requires places { ArePlaces classes.now (length (all_methods (take at classes.now))) places.old.items }
     ensures numbers { IfOk result (λ numbers. AreNumbers classes.now class.now numbers.items) }
@@ -89,7 +91,7 @@ fn members_of(
     at: usize,
     places: &mut Vec<Place>,
 ) -> Result<ClassMembers, AllocError>
-    requires few { length (all_methods classes.now) ≤ 32768 }
+    requires few { length (all_methods classes.now) ≤ most_methods }
     requires class { at < length classes.now }
     requires places { ArePlaces classes.now (length (all_methods (take at classes.now))) places.old.items }
     ensures own { IfOk result (λ own. (c : Class) → At classes.now at c → IsMember classes.now c own) }
@@ -102,9 +104,9 @@ fn members_of(
 }
 
 impl Members {
-    /// The methods of these classes. At most 32768 of them have a body.
+    /// The methods of these classes.
     pub fn new(alloc: Global, classes: &[Class]) -> Result<Members, AllocError>
-        requires { length (all_methods classes.now) ≤ 32768 }
+        requires { length (all_methods classes.now) ≤ most_methods }
         ensures { IfOk result (λ members. AreMembers classes.now members) }
     {
         let mut owns = Vec::new(alloc);
@@ -120,7 +122,7 @@ impl Members {
 
     /// How many methods have a body.
     pub fn count(&self) -> u32
-        requires { length self.now.places.items ≤ 32768 }
+        requires { length self.now.places.items ≤ most_methods }
         ensures { result ≡ length self.now.places.items }
     {
         self.places.len() as u32

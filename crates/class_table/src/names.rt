@@ -3,24 +3,17 @@
 ghost use Rattle.std.specs.Prelude.{◌≡◌, ◌≤◌, ◌↔◌, nat_eq, map, flat_map, length, Contains, IfOk, IfErr, OnOk, MatchOption, IsTrue};
 ghost use lib.Pointwise.{pointwise};
 ghost use Rattle.indexmap.specs.IndexSet.{insert_key, insert_all};
+ghost use Rattle.clean_base.specs.Limits.{most_classes};
 ghost use Rattle.clean_base.specs.Lists.{At};
 ghost use Rattle.jimple_tree.specs.declared.tree.Class.{Class};
-ghost use Rattle.class_table.specs.Faults.{HaveNames, HasFewNames, IsFirstDouble, Refused, most_classes};
+ghost use Rattle.class_table.specs.Faults.{HaveNames, HasFewNames, IsFirstDouble, Refused};
 ghost use Rattle.class_table.specs.Hierarchy.{class_names, heading};
 
+use clean_base::limits::MOST_CLASSES;
 use clean_base::{InputFault, Name, Stop};
 use indexmap::IndexSet;
 use jimple_tree::Class;
 use std::alloc::{AllocError, Global};
-
-const MOST_CLASSES: usize = 65535;
-
-/// A copy of the name.
-pub fn copied(alloc: Global, name: &Name) -> Result<Name, AllocError>
-    ensures { IfOk result (λ n. n ≡ name.now) }
-{
-    Ok(Name::from_vec(Vec::from_slice(alloc, name.bytes())?))
-}
 
 // Adds a name at the end where it isn't there yet. Only a new one is copied.
 fn add_name(alloc: Global, names: &mut IndexSet<Name>, name: &Name) -> Result<(), AllocError>
@@ -29,7 +22,7 @@ fn add_name(alloc: Global, names: &mut IndexSet<Name>, name: &Name) -> Result<()
     if names.contains(name) {
         return Ok(());
     }
-    let copy = copied(alloc, name)?;
+    let copy = name.copy(alloc)?;
     names.insert(copy)?;
     Ok(())
 }
@@ -124,8 +117,8 @@ fn double(alloc: Global, classes: &[Class], name: &Name) -> Stop
     requires double { IsFirstDouble classes.now name.now }
     ensures { Refused classes.now result }
 {
-    match copied(alloc, name) {
-        Ok(class) => Stop::Fault(InputFault::DoubleClass { class }),
+    match name.copy(alloc) {
+        Ok(name) => Stop::Fault(InputFault::DoubleClass { name }),
         Err(AllocError) => Stop::OutOfMemory,
     }
 }

@@ -1,9 +1,10 @@
 // The graphs of the hierarchy: for each name the numbers of the names of one kind that its class has. Numbers of names stand
 // below; the links above.
 ghost use Rattle.std.specs.Prelude.{◌≡◌, ◌≤◌, ◌++◌, ◌-◌, [], length, replicate, All, Contains, IfOk, OnOk};
+ghost use Rattle.clean_base.specs.Limits.{most_classes};
 ghost use Rattle.clean_base.specs.Lists.{At};
 ghost use Rattle.jimple_tree.specs.declared.tree.Class.{Class};
-ghost use Rattle.class_table.specs.Faults.{HaveNames, most_classes};
+ghost use Rattle.class_table.specs.Faults.{HaveNames};
 ghost use Rattle.class_table.specs.Hierarchy.{class_names};
 ghost use Rattle.class_table.specs.Kinds.{kind_names, names_at, AreWithin, IsRow, AreOwnRows};
 ghost use Rattle.class_table.specs.Links.{AreRows};

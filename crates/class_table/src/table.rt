@@ -1,7 +1,8 @@
 // The table of classes: its names, links, methods and lists of concrete classes stand below, and the call graph above.
-ghost use Rattle.std.specs.Prelude.{◌≡◌, ◌↔◌, ◌<◌, ℕ, List, length, map, All, Contains, IfOk, IfErr, IfSome, IfNone, IsTrue, Some, None};
+ghost use Rattle.std.specs.Prelude.{◌≡◌, ◌↔◌, ◌<◌, ℕ, List, length, map, All, Contains, IfOk, IfErr, OnOk, IfSome, IfNone, IsTrue, Some, None};
 ghost use Rattle.std.specs.List.Sorted.{IsStrictlyIncreasing};
 ghost use Rattle.clean_base.specs.Lists.{At, IsDistinct};
+ghost use Rattle.clean_base.specs.declared.fault.InputFault.{InputFault};
 ghost use Rattle.clean_base.specs.declared.ids.ClassId.{ClassId};
 ghost use Rattle.clean_base.specs.declared.ids.MethodId.{MethodId};
 ghost use Rattle.jimple_tree.specs.WellFormed.{IsWellFormed};
@@ -9,7 +10,7 @@ ghost use Rattle.jimple_tree.specs.declared.tree.Class.{Class};
 ghost use Rattle.jimple_tree.specs.declared.tree.Method.{Method};
 ghost use Rattle.reach_rows.specs.Reaches.{Follows};
 ghost use Rattle.class_table.specs.Concrete.{IsConcreteSubtype};
-ghost use Rattle.class_table.specs.Faults.{IsTable, Refused};
+ghost use Rattle.class_table.specs.Faults.{IsFault, IsOnly, IsTable, Refused};
 ghost use Rattle.class_table.specs.Hierarchy.{class_names, given, Extends, IsSubtype};
 ghost use Rattle.class_table.specs.Links.{name_at};
 ghost use Rattle.class_table.specs.Methods.{all_methods, IsDeclared, IsNumber};
@@ -51,8 +52,8 @@ impl Model for ClassTable {
 }
 
 impl ClassTable {
-    /// The table of the classes, in the order of reading. On a refusal the classes are gone.
-    pub fn build(alloc: Global, classes: Vec<Class>) -> Result<ClassTable, Stop>
+    // The table of the classes, or the first of their faults.
+    fn made(alloc: Global, classes: Vec<Class>) -> Result<ClassTable, Stop>
         requires { All IsWellFormed classes.items }
         ensures ok { IfOk result (λ t. (t ≡ classes.items) × IsTable classes.items) }
         ensures err { IfErr result (Refused classes.items) }
@@ -81,6 +82,19 @@ impl ClassTable {
             members,
             concretes,
         })
+    }
+
+    /// The table of the classes, in the order of reading. On a refusal the classes are gone.
+    ///
+    /// An error is the first fault of the classes, which is the only one that is told of them, or want of memory.
+    pub fn build(alloc: Global, classes: Vec<Class>) -> Result<ClassTable, Stop>
+        requires { All IsWellFormed classes.items }
+        ensures ok { IfOk result (λ t. (t ≡ classes.items) × IsTable classes.items) }
+        ensures faultless { OnOk result ((f : InputFault) → IsFault classes.items f → ⊥) }
+        ensures err { IfErr result (Refused classes.items) }
+        ensures only { IfErr result (IsOnly classes.items) }
+    {
+        ClassTable::made(alloc, classes)
     }
 
     /// The classes, in the order of reading.

@@ -1,6 +1,5 @@
 // What the program reads from and writes to, with faults that are counted.
-// What the program reads from and writes to.
-ghost use Rattle.std.specs.Prelude.{◌≡◌, ◌≤◌, ◌<◌, ◌↔◌, ◌++◌, ◌-◌, List, ℕ, Option, length, take, drop, IfOk, IfSome, OnOk, OnErr};
+ghost use Rattle.std.specs.Prelude.{◌≡◌, ◌≤◌, ◌<◌, ◌+◌, ◌↔◌, ◌++◌, ◌-◌, List, ℕ, Option, length, take, drop, IfOk, IfSome, OnOk, OnErr};
 ghost use Rattle.clean_base.specs.Device.{Rose, Reads, AppendsFirst, TookNone, count_of};
 
 /// A device has failed.
@@ -15,6 +14,9 @@ pub trait Shelf {
     /// How often the shelf has failed at a name.
     ghost faults: { Self → List ℕ → ℕ };
 
+    /// How many calls the shelf has counted. One that counts none says so by a number that stays.
+    ghost calls: { Self → ℕ };
+
     /// Puts bytes of the name, from a place on, into the front of `into`, and says how many.
     fn read_at(&mut self, name: &str, from: u64, into: &mut [u8]) -> Result<usize, Failed>
         requires { 0 < length into.old }
@@ -22,7 +24,8 @@ pub trait Shelf {
         ensures bytes { IfOk result (λ n. IfSome (holds self.old name.now) (λ bytes. Reads bytes from n into.new)) }
         ensures same { (other : List ℕ) → holds self.new other ≡ holds self.old other }
         ensures later { (other : List ℕ) → faults self.old other ≤ faults self.new other }
-        ensures cause { OnErr result (Rose (faults self.old name.now) (faults self.new name.now)) };
+        ensures cause { OnErr result (Rose (faults self.old name.now) (faults self.new name.now)) }
+        ensures one_call { calls self.new ≤ calls self.old + 1 };
 }
 
 /// Where bytes go.

@@ -3,7 +3,8 @@ use crate::Name;
 use thiserror::Error;
 
 /// What is wrong with the input (docs/COMMANDS.md, "Refusals"). `file` is the file's place in the order of
-/// reading, `at` a byte of it.
+/// reading, `at` a byte of it, and `line` is counted from 1. No command says `BadLine`, `DoubleComponent`, the faults of
+/// classes, `ComponentMissing`, `LimitFields` or `BadTrace` yet.
 #[derive(Debug, Drop, Error, PartialEq, Eq)]
 pub enum InputFault {
     /// The file has more bytes than its room, which is `at`.
@@ -33,27 +34,42 @@ pub enum InputFault {
     /// A label that doesn't stand in the body.
     #[error("unknown label at {at}")]
     UnknownLabel { file: u32, at: u64 },
+    /// The first line that isn't of the file's form.
+    #[error("line {line} not understood")]
+    BadLine { file: u32, line: u64 },
+    /// A line before it names the same component.
+    #[error("component given twice in line {line}")]
+    DoubleComponent { file: u32, line: u64 },
     /// The classes give and name more classes than there is room for.
     #[error("too many classes")]
     LimitClasses,
     /// A class of that name was given before.
     #[error("class given twice")]
-    DoubleClass { class: Name },
+    DoubleClass { name: Name },
     /// A class that is reached from itself along `extends` and `implements`.
     #[error("class is its own supertype")]
-    Cycle { class: Name },
+    Cycle { name: Name },
     /// The classes have more methods with a body than there is room for.
     #[error("too many methods")]
     LimitMethods,
     /// Their bodies have more statements than there is room for.
     #[error("too many statements")]
     LimitStmts,
+    /// The first component that is no concrete class.
+    #[error("component not found")]
+    ComponentMissing { name: Name },
     /// The entry signature names no method with a body.
     #[error("entry method not found")]
     EntryMissing,
+    /// The classes declare and name more fields than there is room for.
+    #[error("too many fields")]
+    LimitFields,
     /// The file has a form that isn't built yet.
     #[error("form not built yet")]
     NotYet { file: u32 },
+    /// A line of a trace that isn't allowed there.
+    #[error("trace line {line} not valid")]
+    BadTrace { file: u32, line: u64 },
 }
 
 /// A form that no flow rule covers. Its word is refused.

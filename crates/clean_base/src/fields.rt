@@ -39,7 +39,8 @@ impl Fields {
     }
 
     pub fn len(&self) -> usize
-        ensures { result ≡ length self.now }
+        ensures is { result ≡ length self.now }
+        ensures few { result ≤ 8 }
     {
         self.len as usize
     }

@@ -47,6 +47,7 @@ pub fn read_all<S: Shelf>(
     ensures cause { IfErr result (ReadCause (S.holds shelf.old name.now) (S.faults shelf.old name.now) (S.faults shelf.new name.now) room) }
     ensures same { (other : List ℕ) → S.holds shelf.new other ≡ S.holds shelf.old other }
     ensures later { (other : List ℕ) → S.faults shelf.old other ≤ S.faults shelf.new other }
+    ensures calls { S.calls shelf.new ≤ S.calls shelf.old + room + 1 }
 {
     let mut out = Vec::new(alloc);
     let Ok(mut room_for_piece) = buffer(alloc, PIECE) else {

@@ -1,6 +1,6 @@
 // The real files and the standard streams. They tell nothing of content: what is proved of them is safety, causes
 // and the number of bytes.
-ghost use Rattle.std.specs.Prelude.{None, IfSome, ◌≤◌, length};
+ghost use Rattle.std.specs.Prelude.{◌≡◌, None, IfSome, ◌≤◌, length};
 
 use crate::{Failed, Shelf, Sink};
 use std::fs::File;
@@ -15,7 +15,10 @@ pub struct StdShelf<'a, R: Files> {
 }
 
 impl<'a, R: Files> StdShelf<'a, R> {
-    pub fn new(rt: &'a R) -> Self {
+    /// A shelf that has not failed yet.
+    pub fn new(rt: &'a R) -> Self
+        ensures { result.faults ≡ 0 }
+    {
         StdShelf { rt, faults: 0 }
     }
 }
@@ -41,6 +44,8 @@ impl<R: Files> Shelf for StdShelf<'_, R> {
 
     ghost faults = { λ s _. s.faults };
 
+    ghost calls = { λ s. 0 };
+
     fn read_at(&mut self, name: &str, from: u64, into: &mut [u8]) -> Result<usize, Failed> {
         match read_part(self.rt, name, from, into) {
             Some(n) => Ok(n),
@@ -61,14 +66,18 @@ pub struct StdSink<W: Write + Drop> {
 
 impl StdSink<Stdout> {
     /// The standard output.
-    pub fn output(stream: Stdout) -> Self {
+    pub fn output(stream: Stdout) -> Self
+        ensures { result.faults ≡ 0 }
+    {
         StdSink { stream, faults: 0 }
     }
 }
 
 impl StdSink<Stderr> {
     /// The standard error.
-    pub fn error(stream: Stderr) -> Self {
+    pub fn error(stream: Stderr) -> Self
+        ensures { result.faults ≡ 0 }
+    {
         StdSink { stream, faults: 0 }
     }
 }

@@ -1,7 +1,9 @@
 // Lists, names and words, as contracts see them.
-ghost use Rattle.std.specs.Prelude.{◌≡◌, List, ℕ, string_bytes};
+ghost use Rattle.std.specs.Prelude.{◌≡◌, List, ℕ, IfOk, string_bytes};
 
+use std::alloc::{AllocError, Global};
 use std::cmp::Ordering;
+use std::convert::AsStr;
 use std::hash::{Hash, Hasher};
 use std::marker::Model;
 
@@ -108,6 +110,15 @@ impl Name {
     {
         self.bytes.as_slice()
     }
+
+    /// The same name once more.
+    pub fn copy(&self, alloc: Global) -> Result<Name, AllocError>
+        ensures { IfOk result (λ name. name ≡ self.now) }
+    {
+        Ok(Name {
+            bytes: Vec::from_slice(alloc, self.bytes())?,
+        })
+    }
 }
 
 /// A word of the command line, as its bytes.
@@ -132,6 +143,15 @@ impl Word {
     pub fn as_str(&self) -> &str
         ensures { result.now ≡ self.now }
     {
+        self.text.as_str()
+    }
+}
+
+/// So a reader of command lines takes words, and what it answers may borrow them.
+impl AsStr for Word {
+    ghost text = { λ word. word };
+
+    fn as_str(&self) -> &str {
         self.text.as_str()
     }
 }

@@ -1,7 +1,13 @@
--- Texts that are written in three parts.
-use Rattle.std.proofs.Common.{◌≡◌, List, ◌++◌, ap, ◌∙◌, append_assoc, Result, Ok, Err, OnOk}
+-- Texts that are written in two parts, and lists of lists one behind another.
+use Rattle.std.proofs.Common.{◌≡◌, List, [], ◌∷◌, ◌++◌, flat_map, ap, sym, ◌∙◌, append_assoc, append-nil, Result, Ok, Err, OnOk}
+use Rattle.std.proofs.lemmas.Grind.{flat_map-append}
 
-pub three_parts : {X T E : Type 0} (r : Result T E) (old first second new a b c : List X) → first ≡ old ++ a → second ≡ first ++ b → OnOk r (new ≡ second ++ c) → OnOk r (new ≡ old ++ (a ++ b ++ c))
-three_parts {X} (Ok u) old first second new a b c one two three =
-    three ∙ ap (λ (xs : List X). xs ++ c) (two ∙ ap (λ (xs : List X). xs ++ b) one ∙ append_assoc old a b) ∙ append_assoc old (a ++ b) c
-three_parts (Err e) old first second new a b c one two three = tt
+pub two_parts : {X T E : Type 0} (r : Result T E) (old first new a b : List X) → first ≡ old ++ a → OnOk r (new ≡ first ++ b) → OnOk r (new ≡ old ++ (a ++ b))
+two_parts {X} (Ok u) old first new a b one two = two ∙ ap (λ (xs : List X). xs ++ b) one ∙ append_assoc old a b
+two_parts (Err e) old first new a b one two = tt
+
+-- one list more
+pub one_list_more : {X : Type 0} (lists : List (List X)) (own all new : List X) → all ≡ flat_map (λ (xs : List X). xs) lists → new ≡ all ++ own → new ≡ flat_map (λ (xs : List X). xs) (lists ++ own ∷ [])
+one_list_more {X} lists own all new are is =
+    is ∙ ap (λ (xs : List X). xs ++ own) are
+    ∙ sym (flat_map-append (λ (xs : List X). xs) lists (own ∷ []) ∙ ap (λ (xs : List X). flat_map (λ (ys : List X). ys) lists ++ xs) (append-nil own))

@@ -9,6 +9,7 @@ use Rattle.std.proofs.lemmas.List.Folds.{list_all-append, length-flat_map-take}
 use Rattle.std.proofs.lemmas.Map.Made.{AllPairs-from_IsDistinct, is_member-Decides}
 use Rattle.std.proofs.lemmas.Bool.{leb-true, le-leb}
 use lib.Pointwise.{pointwise, bytes_decides}
+use Rattle.clean_base.specs.Limits.{most_classes}
 use Rattle.ifds_model.specs.Count.{one_count}
 use Rattle.ifds_model.specs.Runs.{HasCount}
 use Rattle.jimple_tree.specs.Bodies.{stmts_of, all_stmts}
@@ -58,23 +59,23 @@ has_later xs ys x a b of_xs of_ys none = (there, back) where
   ]
 
 -- with the number of the names, a class is what the solver works on where they are no more than there may be
-pub solved_within : (c : Class) (names : List (List ℕ)) (n : ℕ) → IsSimple c → names ≡ heading_names c → HasCount (Contains names) n → IsTrue (leb n 65535) ↔ IsSolved c
+pub solved_within : (c : Class) (names : List (List ℕ)) (n : ℕ) → IsSimple c → names ≡ heading_names c → HasCount (Contains names) n → IsTrue (leb n most_classes) ↔ IsSolved c
 solved_within c names n simple are counted = (there, back) where
   count : HasCount (Contains (heading_names c)) n
   count = subst (λ (xs : List (List ℕ)). HasCount (Contains xs) n) are counted
 
-  there : IsTrue (leb n 65535) → IsSolved c
+  there : IsTrue (leb n most_classes) → IsSolved c
   there few = record {
     apart = simple.0;
-    names = (n, count, leb-true n 65535 few);
+    names = (n, count, leb-true n most_classes few);
     methods = simple.1.0;
     statements = simple.1.1;
     fields = simple.1.2;
     plain = simple.2;
   }
 
-  back : IsSolved c → IsTrue (leb n 65535)
+  back : IsSolved c → IsTrue (leb n most_classes)
   back is =
       let same : n ≡ is.names.0 = one_count (Contains (heading_names c)) n is.names.0 count is.names.1 in
-      let few : is.names.0 ≤ 65535 = is.names.2 in
-      le-leb n 65535 (omega (arith, same, few))
+      let few : is.names.0 ≤ most_classes = is.names.2 in
+      le-leb n most_classes (omega (arith, same, few))

@@ -1,6 +1,6 @@
 -- Pairs of brackets, one after another.
 use Rattle.std.proofs.Common.{◌≡◌, ℕ, zero, suc, ◌+◌, List, ◌++◌, codes, refl, ap, ◌∙◌, sym, append_assoc, add-one}
-use Rattle.clean_top.specs.Report.{brackets}
+use Rattle.jimple_tree.specs.Printed.{brackets}
 
 brackets-suc : (n : ℕ) → brackets (suc n) ≡ brackets n ++ codes "[]"
 brackets-suc zero = refl

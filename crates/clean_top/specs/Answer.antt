@@ -1,14 +1,21 @@
--- What a call may answer, over its words, its files and its sinks (docs/COMMANDS.md, "Answers and their causes").
-use Rattle.std.specs.Prelude.{◌≡◌, ◌⊎◌, ℕ, zero, suc, ◌+◌, ◌<◌, Bool, true, false, List, length, Option, Some}
+-- What a call may answer, over its command, its files and its sinks (docs/COMMANDS.md, "Answers and their causes").
+use Rattle.std.specs.Prelude.{◌≡◌, ◌⊎◌, ℕ, ◌<◌, Bool, true, false, List, length, Option, Result, Ok, Err}
 use Rattle.clean_base.specs.Device.{Rose, AppendsFirst}
-use Rattle.clean_base.specs.declared.fault.InputFault.TheVariants.{TooLong}
-use Rattle.clean_base.specs.declared.read.ReadStop.{ReadStop}
-use Rattle.clean_base.specs.declared.read.ReadStop.TheVariants as stops
-use Rattle.clean_top.specs.Meaning.{Files, Outcome, refused, over, report, edge_room, Means}
+use Rattle.clean_stage.specs.Stage.{Out, fault}
+use Rattle.clean_stage.specs.declared.halt.Halt.{Halt}
+use Rattle.clean_stage.specs.declared.halt.Halt.TheVariants.{Refused, OutOfMemory as NoMemory}
+use Rattle.clean_stage.specs.declared.halt.Refusal.{Refusal}
+use Rattle.clean_stage.specs.declared.halt.Refusal.TheVariants as refusals
+use Rattle.clean_top.specs.Meaning.{means}
+use Rattle.clean_top.specs.Reading.{ComesIn, IsFaultAt, IsAmong, Tells}
 use Rattle.clean_top.specs.Status.{error_text}
-use Rattle.clean_top.specs.Words.{Asked}
+use Rattle.clean_top.specs.Words.{in_order}
+use Rattle.clean_top.specs.declared.output.Output.{Output}
+use Rattle.clean_top.specs.declared.read.ReadHalt.{ReadHalt}
+use Rattle.clean_top.specs.declared.read.ReadHalt.TheVariants as halts
 use Rattle.clean_top.specs.declared.status.Status.{Status}
 use Rattle.clean_top.specs.declared.status.Status.TheVariants.{Clean, Leaks, Usage, Input, EdgeLimit, ReadFault, WriteFault, OutOfMemory}
+use Rattle.clean_top.specs.declared.task.Command.{Command}
 
 -- what a call does to its files and to its output
 pub record Run : Type 0 where
@@ -24,35 +31,41 @@ pub record Run : Type 0 where
   pub first : ℕ
   pub last : ℕ
 
--- the shelf tells the files that the words name
-pub record Holds (run : Run) (asked : Asked) (files : Files) : Type 0 where
-  pub class : run.holds asked.file ≡ Some files.class
-  pub list : run.holds asked.lists ≡ Some files.list
+-- a run from the ghost members of a shelf and a sink, and the values of both before and behind the call
+abbrev pub run_of : {S K : Type 0} → (S → List ℕ → Option (List ℕ)) → (S → List ℕ → ℕ) → (K → Option (List ℕ)) → (K → ℕ) → S → S → K → K → Run
+run_of holds failed taken faults shelf shelf_behind out out_behind = record {
+  holds = holds shelf;
+  before = failed shelf;
+  now = failed shelf_behind;
+  old = taken out;
+  new = taken out_behind;
+  first = faults out;
+  last = faults out_behind;
+}
 
--- the words and the files mean this, and nothing else
-abbrev pub IsMeant : Run → Asked → Outcome → Type 0
-IsMeant run asked o = (files : Files) → Holds run asked files → Means asked files o × ((other : Outcome) → Means asked files other → other ≡ o)
+-- the files that the command names, where the shelf tells them
+abbrev pub Holds : Run → Command → (List ℕ → List ℕ) → Type 0
+Holds run command files = Tells run.holds (in_order command.names) files
 
--- the output has taken so much of what the words and files mean, and nothing else
-pub record Wrote (run : Run) (asked : Asked) (text : List ℕ) (leaky : Bool) (n : ℕ) : Type 0 where
-  pub meant : IsMeant run asked (report text leaky)
-  pub taken : AppendsFirst run.old run.new n text
+-- the command and its files mean this, and nothing else
+abbrev pub IsMeant : Run → Command → Result Output Halt → Type 0
+IsMeant run command r = ComesIn run.holds (in_order command.names) (means command) r
 
--- the name of a file, by its place in the order of reading
-abbrev pub file_name : Asked → ℕ → List ℕ
-file_name asked zero = asked.file
-file_name asked (suc n) = asked.lists
+-- the output has taken so much of what is meant, and nothing else
+pub record Wrote (run : Run) (command : Command) (o : Output) (n : ℕ) : Type 0 where
+  pub meant : IsMeant run command (Ok o)
+  pub taken : AppendsFirst run.old run.new n o.text
 
--- what each status says
-abbrev pub Says : Run → Asked → Status → Type 0
-Says run asked Clean = (text : List ℕ) × Wrote run asked text false (length text)
-Says run asked Leaks = (text : List ℕ) × Wrote run asked text true (length text)
-Says run asked Usage = ⊥
-Says run asked (Input f) = (run.new ≡ run.old) × IsMeant run asked (refused f)
-Says run asked (EdgeLimit found) = (run.new ≡ run.old) × IsMeant run asked over × (found ≡ edge_room + 1)
-Says run asked (ReadFault file) = (run.new ≡ run.old) × Rose (run.before (file_name asked file)) (run.now (file_name asked file))
-Says run asked (WriteFault written) = Rose run.first run.last × ((text : List ℕ) × (leaky : Bool) × (written < length text) × Wrote run asked text leaky written)
-Says run asked OutOfMemory = run.new ≡ run.old
+-- what each status says; the files that it names are files of the command
+abbrev pub Says : Run → Command → Status → Type 0
+Says run command Clean = (o : Output) × (o.leaky ≡ false) × Wrote run command o (length o.text)
+Says run command Leaks = (o : Output) × (o.leaky ≡ true) × Wrote run command o (length o.text)
+Says run command Usage = ⊥
+Says run command (Input f) = (run.new ≡ run.old) × IsMeant run command (Err (fault f)) × IsAmong (length (in_order command.names)) f
+Says run command (EdgeLimit found) = (run.new ≡ run.old) × IsMeant run command (Err (Refused (refusals.EdgeLimit found)))
+Says run command (ReadFault file) = (run.new ≡ run.old) × IsFaultAt run.before run.now (in_order command.names) 0 file
+Says run command (WriteFault written) = Rose run.first run.last × ((o : Output) × (written < length o.text) × Wrote run command o written)
+Says run command OutOfMemory = run.new ≡ run.old
 
 -- the status of a whole output
 abbrev pub whole : Bool → Status
@@ -65,41 +78,42 @@ IsReadFault s = (file : ℕ) × (s ≡ ReadFault file)
 abbrev pub IsWriteFault : Status → Type 0
 IsWriteFault s = (written : ℕ) × (s ≡ WriteFault written)
 
--- no other answer comes where the words and files mean this
-abbrev pub Answers : Run → Outcome → Status → Type 0
-Answers run (refused f) s = (s ≡ Input f) ⊎ IsReadFault s ⊎ (s ≡ OutOfMemory)
-Answers run over s = (s ≡ EdgeLimit (edge_room + 1)) ⊎ IsReadFault s ⊎ (s ≡ OutOfMemory)
-Answers run (report text leaky) s = ((s ≡ whole leaky) × AppendsFirst run.old run.new (length text) text) ⊎ IsReadFault s ⊎ IsWriteFault s ⊎ (s ≡ OutOfMemory)
+-- no other answer comes where the command and its files mean this
+abbrev pub Answers : Run → Result Output Refusal → Status → Type 0
+Answers run (Ok o) s = ((s ≡ whole o.leaky) × AppendsFirst run.old run.new (length o.text) o.text) ⊎ IsReadFault s ⊎ IsWriteFault s ⊎ (s ≡ OutOfMemory)
+Answers run (Err (refusals.Fault f)) s = (s ≡ Input f) ⊎ IsReadFault s ⊎ (s ≡ OutOfMemory)
+Answers run (Err (refusals.EdgeLimit found)) s = (s ≡ EdgeLimit found) ⊎ IsReadFault s ⊎ (s ≡ OutOfMemory)
 
 -- a call that was asked for this answers so
-pub record Serves (run : Run) (asked : Asked) (s : Status) : Type 0 where
-  pub said : Says run asked s
-  pub only : (files : Files) → Holds run asked files → (o : Outcome) → Means asked files o → Answers run o s
+pub record Serves (run : Run) (command : Command) (s : Status) : Type 0 where
+  pub said : Says run command s
+  pub only : (files : List ℕ → List ℕ) → Holds run command files → (r : Result Output Refusal) → Out (means command files) r → Answers run r s
 
 -- words of no form are refused, and the output stays as it is
 abbrev pub IsRefused : Option (List ℕ) → Option (List ℕ) → Status → Type 0
 IsRefused old new s = ((s ≡ Usage) ⊎ (s ≡ OutOfMemory)) × (new ≡ old)
 
--- the end of a call that couldn't read a file
-abbrev pub read_status : ReadStop → ℕ → Status
-read_status stops.ReadFault file = ReadFault file
-read_status (stops.TooLong at) file = Input (TooLong file at)
-read_status stops.OutOfMemory file = OutOfMemory
+-- what the writing of an output comes to
+abbrev pub Writes : Option (List ℕ) → Option (List ℕ) → ℕ → ℕ → Output → Status → Type 0
+Writes old new first last o (WriteFault written) = Rose first last × (written < length o.text) × AppendsFirst old new written o.text
+Writes old new first last o s = (s ≡ whole o.leaky) × AppendsFirst old new (length o.text) o.text
 
--- what the writing of a text comes to
-abbrev pub Writes : Option (List ℕ) → Option (List ℕ) → ℕ → ℕ → List ℕ → Bool → Status → Type 0
-Writes old new first last text leaky (WriteFault written) = Rose first last × (written < length text) × AppendsFirst old new written text
-Writes old new first last text leaky s = (s ≡ whole leaky) × AppendsFirst old new (length text) text
+-- the status without an output
+abbrev pub halted : ReadHalt → Status
+halted (halts.ReadFault file) = ReadFault file
+halted (halts.Halt (Refused (refusals.Fault f))) = Input f
+halted (halts.Halt (Refused (refusals.EdgeLimit found))) = EdgeLimit found
+halted (halts.Halt NoMemory) = OutOfMemory
 
 -- a sink has taken the text, or it failed after a part of it
 abbrev pub Takes : Option (List ℕ) → Option (List ℕ) → ℕ → ℕ → List ℕ → Type 0
 Takes old new first last text = AppendsFirst old new (length text) text ⊎ (Rose first last × ((n : ℕ) × (n < length text) × AppendsFirst old new n text))
 
--- the error sink has taken the line of the status; of a whole output it takes none
+-- the error sink has taken the line of the status, over the names of the files; of a whole output it takes none
 abbrev pub Complains : List (List ℕ) → Option (List ℕ) → Option (List ℕ) → ℕ → ℕ → Status → Type 0
-Complains words old new first last Clean = new ≡ old
-Complains words old new first last Leaks = new ≡ old
-Complains words old new first last s = Takes old new first last (error_text words s)
+Complains names old new first last Clean = new ≡ old
+Complains names old new first last Leaks = new ≡ old
+Complains names old new first last s = Takes old new first last (error_text names s)
 
 -- a status, or want of memory in place of one that left the output as it was
 abbrev pub OrMemory : Status → Status → Type 0

@@ -1,9 +1,9 @@
 pub mod Answer
+pub mod Graph
 pub mod Meaning
+pub mod Printed
+pub mod Reading
 pub mod Report
 pub mod Solved
-pub mod Stage
 pub mod Status
-pub mod Texts
-pub mod Told
 pub mod Words

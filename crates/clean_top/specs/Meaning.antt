@@ -1,12 +1,18 @@
--- What words and files mean: a fault, too many path edges, or a report (docs/COMMANDS.md, "Refusals" and "Reports").
-use Rattle.std.specs.Prelude.{◌≡◌, ◌<◌, ◌≤◌, ◌-◌, ◌^◌, ℕ, Bool, List, [], ◌∷◌, length}
+-- What a command means: a refusal or an output (docs/COMMANDS.md, "Refusals" and "Outputs").
+use Rattle.std.specs.Prelude.{◌≡◌, ◌≤◌, ◌+◌, ◌-◌, ◌^◌, ℕ, List, [], ◌∷◌, flat_map}
 use Rattle.clean_base.specs.declared.fault.InputFault.{InputFault}
-use Rattle.clean_base.specs.declared.fault.InputFault.TheVariants.{TooLong, NotYet, EntryMissing}
+use Rattle.clean_base.specs.declared.fault.InputFault.TheVariants.{NotYet, EntryMissing}
 use Rattle.clean_base.specs.declared.ids.MethodId.{MethodId}
+use Rattle.clean_stage.specs.Stage.{Stage, ◌>>=◌, done, every}
+use Rattle.clean_stage.specs.declared.halt.Halt.{Halt}
+use Rattle.clean_stage.specs.declared.halt.Halt.TheVariants.{Refused, OutOfMemory}
+use Rattle.clean_stage.specs.declared.halt.Refusal.TheVariants.{Fault, EdgeLimit}
 use Rattle.ifds_model.specs.Machine.{Machine}
 use Rattle.ifds_model.specs.Runs.{IsEdge}
 use Rattle.ifds_model.specs.declared.node.Leak.{Leak}
 use Rattle.core_driver.specs.More.{HasMoreThan}
+use Rattle.solver_core.specs.declared.answer.CommitStop.{CommitStop}
+use Rattle.solver_core.specs.declared.answer.CommitStop.TheVariants as commits
 use Rattle.taint_problem.specs.Machine.{machine}
 use Rattle.taint_problem.specs.declared.fact.Fact.{Fact}
 use Rattle.jimple_text.specs.Reads.{Reads, IsFault}
@@ -14,106 +20,132 @@ use Rattle.jimple_tree.specs.declared.tree.Class.{Class}
 use Rattle.jimple_tree.specs.declared.tree.Sig.{Sig}
 use Rattle.source_sink.specs.Lists.{AreLines}
 use Rattle.source_sink.specs.declared.line.Line.{Line}
+use Rattle.class_table.specs.Faults.{IsFault as IsClassFault}
+use Rattle.class_table.specs.Methods.{IsDeclared}
+use Rattle.call_graph.specs.Graphs.{IsCallGraph}
+use Rattle.call_graph.specs.declared.edges.CallGraph.{CallGraph}
 use Rattle.app_program.specs.Calls.{IsMethod}
 use Rattle.app_program.specs.Program.{IsProgram}
 use Rattle.app_program.specs.declared.program.Program.{Program}
+use Rattle.clean_top.specs.Graph.{drawn}
+use Rattle.clean_top.specs.Reading.{text_at, texts_in}
 use Rattle.clean_top.specs.Report.{Reports}
 use Rattle.clean_top.specs.Solved.{IsSolved}
-use Rattle.clean_top.specs.Stage.{Stage, ◌>>=◌}
-use Rattle.clean_top.specs.Words.{Asked}
-
--- the bytes of the files that the words name
-pub record Files : Type 0 where
-  pub class : List ℕ
-  pub list : List ℕ
-
--- the most bytes of class text, and of a list
-abbrev pub class_room : ℕ
-class_room = 268435456
-
-abbrev pub list_room : ℕ
-list_room = 16777216
+use Rattle.clean_top.specs.declared.output.Output.{Output}
+use Rattle.clean_top.specs.declared.read.Text.{Text}
+use Rattle.clean_top.specs.declared.read.Texts.{Texts}
+use Rattle.clean_top.specs.declared.task.Command.{Command}
+use Rattle.clean_top.specs.declared.task.Task.{Task}
+use Rattle.clean_top.specs.declared.task.Task.TheVariants.{Serial, Graph}
 
 -- the most path edges
 abbrev pub edge_room : ℕ
 edge_room = 2 ^ 64 - 2
 
--- a file has no more bytes than its room
-abbrev pub fits : ℕ → List ℕ → ℕ → Stage (Unit {0})
-fits file bytes room = record {
-  refuses = λ f. (room < length bytes) × (f ≡ TooLong file room);
-  gives = λ done. length bytes ≤ room;
-}
-
 -- the classes of a class file
-abbrev pub read : ℕ → List ℕ → Stage (List Class)
-read file bytes = record {
-  refuses = λ f. IsFault file bytes f;
-  gives = λ cs. Reads bytes cs;
+abbrev pub classes_of : Text → Stage (List Class)
+classes_of text = record {
+  refuses = λ r. (f : InputFault) × IsFault text.file text.bytes f × (r ≡ Fault f);
+  gives = λ cs. Reads text.bytes cs;
 }
 
--- the one class of a class file, on which the solver works so far
-abbrev pub solved : ℕ → List Class → Stage Class
-solved file cs = record {
-  refuses = λ f. ((c : Class) → cs ≡ c ∷ [] → IsSolved c → ⊥) × (f ≡ NotYet file);
+-- the classes of all class files, in order
+abbrev pub classes_in : List Text → Stage (List Class)
+classes_in texts = every classes_of texts >>= λ files. done (flat_map (λ (cs : List Class). cs) files)
+
+-- one class, on which the solver works so far
+abbrev pub solved : List Class → Stage Class
+solved cs = record {
+  refuses = λ r. ((c : Class) → cs ≡ c ∷ [] → IsSolved c → ⊥) × (r ≡ Fault (NotYet 0));
   gives = λ c. (cs ≡ c ∷ []) × IsSolved c;
 }
 
 -- a list has the built form
-abbrev pub lines : ℕ → List ℕ → Stage (List Line)
-lines file bytes = record {
-  refuses = λ f. ((ls : List Line) → AreLines ls bytes → ⊥) × (f ≡ NotYet file);
-  gives = λ ls. AreLines ls bytes;
+abbrev pub lines_of : Text → Stage (List Line)
+lines_of text = record {
+  refuses = λ r. ((ls : List Line) → AreLines ls text.bytes → ⊥) × (r ≡ Fault (NotYet text.file));
+  gives = λ ls. AreLines ls text.bytes;
 }
-
--- a program, with the class that it is made of
-pub record App : Type 0 where
-  pub class : Class
-  pub program : Program
-
--- the program as a stack machine
-abbrev pub machine_of : App → Machine Fact Leak
-machine_of app = machine app.program.code app.program.root
 
 -- the entry names a method of the class
-abbrev pub entered : Class → List Line → Sig → Stage App
+abbrev pub entered : Class → List Line → Sig → Stage Program
 entered class ls entry = record {
-  refuses = λ f. ((n : MethodId) → IsMethod class entry n → ⊥) × (f ≡ EntryMissing);
-  gives = λ app. (app.class ≡ class) × IsProgram class ls entry app.program;
+  refuses = λ r. ((n : MethodId) → IsMethod class entry n → ⊥) × (r ≡ Fault EntryMissing);
+  gives = λ p. IsProgram class ls entry p;
 }
 
--- the program of a class text and a list text
-abbrev pub texts : Sig → List ℕ → List ℕ → Stage App
-texts entry class list =
-    read 0 class >>= λ cs.
-    solved 0 cs >>= λ c.
-    lines 1 list >>= λ ls.
-    entered c ls entry
-
--- the program that the words and files give, or the first fault of the files
-abbrev pub program : Asked → Files → Stage App
-program asked files =
-    fits 0 files.class class_room >>= λ class_fits.
-    fits 1 files.list list_room >>= λ list_fits.
-    texts asked.entry files.class files.list
+-- the program as a stack machine
+abbrev pub machine_of : Program → Machine Fact Leak
+machine_of p = machine p.code p.root
 
 -- the program has more path edges than there is room for
-abbrev pub IsOver : App → Type 0
-IsOver app = HasMoreThan (IsEdge (machine_of app)) edge_room
+abbrev pub IsOver : Program → Type 0
+IsOver p = HasMoreThan (IsEdge (machine_of p)) edge_room
 
 -- it has no more, and this is its report
-pub record IsReport (app : App) (text : List ℕ) (leaky : Bool) : Type 0 where
+pub record IsReport (class : Class) (p : Program) (o : Output) : Type 0 where
   pub edges : ℕ
   pub within : edges ≤ edge_room
-  pub reports : Reports (machine_of app) app.class app.program.code edges text leaky
+  pub reports : Reports (machine_of p) class p.code edges o.text o.leaky
 
--- a refusal, too many path edges, or a text to write, which has leaks or not
-pub data Outcome : Type 0 where
-  refused : InputFault → Outcome
-  over : Outcome
-  report : List ℕ → Bool → Outcome
+-- the report of a program, or the limit that it passes
+abbrev pub reported : Class → Program → Stage Output
+reported class p = record {
+  refuses = λ r. IsOver p × (r ≡ EdgeLimit (edge_room + 1));
+  gives = λ o. IsReport class p o;
+}
 
-abbrev pub Means : Asked → Files → Outcome → Type 0
-Means asked files (refused f) = (program asked files).refuses f
-Means asked files over = (app : App) × (program asked files).gives app × IsOver app
-Means asked files (report text leaky) = (app : App) × (program asked files).gives app × IsReport app text leaky
+abbrev pub serially : Sig → Texts → Stage Output
+serially entry texts =
+    classes_in texts.classes >>= λ cs.
+    solved cs >>= λ c.
+    lines_of (text_at texts.lists 0) >>= λ ls.
+    entered c ls entry >>= λ p.
+    reported c p
+
+-- the classes have no fault, so they have a table
+abbrev pub tabled : List Class → Stage (List Class)
+tabled cs = record {
+  refuses = λ r. (f : InputFault) × IsClassFault cs f × (r ≡ Fault f);
+  gives = λ table. ((f : InputFault) → IsClassFault cs f → ⊥) × (table ≡ cs);
+}
+
+-- the entry names a method of theirs
+abbrev pub rooted : List Class → Sig → Stage MethodId
+rooted table entry = record {
+  refuses = λ r. ((n : MethodId) → IsDeclared table entry n → ⊥) × (r ≡ Fault EntryMissing);
+  gives = λ n. IsDeclared table entry n;
+}
+
+-- the graph of the open calls from a method on
+abbrev pub called : List Class → List Line → MethodId → Stage CallGraph
+called table ls root = record { refuses = λ r. ⊥; gives = λ g. IsCallGraph table ls root g }
+
+abbrev pub graphed : Sig → Texts → Stage Output
+graphed entry texts =
+    classes_in texts.classes >>= λ cs.
+    lines_of (text_at texts.lists 0) >>= λ ls.
+    tabled cs >>= λ table.
+    rooted table entry >>= λ root.
+    called table ls root >>= λ g.
+    done (drawn table g)
+
+-- the work of a command on the texts of its files
+abbrev pub work : Task → Texts → Stage Output
+work (Serial entry) texts = serially entry texts
+work (Graph entry) texts = graphed entry texts
+
+-- all files are read, and then comes the work
+abbrev pub means : Command → (List ℕ → List ℕ) → Stage Output
+means command files = texts_in command.names files >>= λ texts. work command.task texts
+
+-- the stops of the solver
+abbrev pub of_commit : CommitStop → Halt
+of_commit (commits.EdgeLimit found) = Refused (EdgeLimit found)
+of_commit commits.OutOfMemory = OutOfMemory
+
+-- why a program has no report: it is too large, or memory ran out. The public contracts don't cite this.
+abbrev pub Unreported : Program → Halt → Type 0
+Unreported p (Refused (Fault f)) = ⊥
+Unreported p (Refused (EdgeLimit found)) = IsOver p × (found ≡ edge_room + 1)
+Unreported p OutOfMemory = Unit {0}

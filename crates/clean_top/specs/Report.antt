@@ -1,5 +1,5 @@
 -- The report of a program's leaks (docs/FORMATS.md, "Report").
-use Rattle.std.specs.Prelude.{◌≡◌, ◌-◌, Bool, nat_lt, length, ℕ, zero, suc, List, [], ◌∷◌, ◌++◌, codes, decimal, map, flat_map, slice_index_or, Option, Some, None, IsPermutation, IsSorted}
+use Rattle.std.specs.Prelude.{◌≡◌, ◌-◌, Bool, nat_lt, length, ℕ, List, [], ◌++◌, codes, map, flat_map, slice_index_or, Option, Some, None, IsPermutation, IsSorted}
 use Rattle.std.specs.Ordering.{nat_cmp, ordering_then}
 use Rattle.std.specs.declared.cmp.Ordering.{Ordering}
 use Rattle.std.specs.Cmp.Lexicographic.{slice_cmp}
@@ -7,36 +7,17 @@ use Rattle.clean_base.specs.declared.ids.LocalId.{LocalId}
 use Rattle.clean_base.specs.declared.ids.MethodId.{MethodId}
 use Rattle.clean_base.specs.declared.ids.StmtId.{StmtId}
 use Rattle.jimple_tree.specs.Bodies.{bodied}
+use Rattle.jimple_tree.specs.Printed.{method_text}
 use Rattle.jimple_tree.specs.declared.tree.Body.{Body}
 use Rattle.jimple_tree.specs.declared.tree.Class.{Class}
-use Rattle.jimple_tree.specs.declared.tree.JType.{JType}
 use Rattle.jimple_tree.specs.declared.tree.Local.{Local}
 use Rattle.jimple_tree.specs.declared.tree.Method.{Method}
 use Rattle.ifds_model.specs.Machine.{Machine}
 use Rattle.ifds_model.specs.Runs.{IsEdge, IsContext, IsLeak, Lists, HasCount}
 use Rattle.ifds_model.specs.declared.node.Leak.{Leak}
 use Rattle.taint_problem.specs.declared.code.Code.{Code}
+use Rattle.clean_top.specs.Printed.{place_text, count_text}
 use Rattle.clean_top.specs.declared.report.Line.{Line}
-
--- so many pairs of brackets
-abbrev pub brackets : ℕ → List ℕ
-brackets zero = []
-brackets (suc n) = codes "[]" ++ brackets n
-
-abbrev pub type_text : JType → List ℕ
-type_text t = t.base ++ brackets t.dims
-
-abbrev pub types_text : List JType → List ℕ
-types_text [] = []
-types_text (t ∷ ts) = type_text t ++ flat_map (λ u. codes "," ++ type_text u) ts
-
--- the class and the result type of a method
-abbrev pub front_text : List ℕ → JType → List ℕ
-front_text class result = codes "<" ++ class ++ codes ": " ++ type_text result ++ codes " "
-
--- a method of the class is printed as its signature
-abbrev pub method_text : List ℕ → Method → List ℕ
-method_text class m = front_text class m.result ++ m.name ++ codes "(" ++ types_text m.params ++ codes ")>"
 
 -- the locals of a body; without a body there are none
 abbrev pub body_locals : Option Body → List Local
@@ -55,9 +36,9 @@ place_of code s = s.0 - (slice_index_or code.firsts (method_of code s).0 (record
 abbrev pub method_text_at : Class → MethodId → List ℕ
 method_text_at class m = slice_index_or (map (method_text class.name) (bodied class.methods)) m.0 []
 
--- a statement is printed as its method, `#` and its place
+-- a statement is printed as its method and its place
 unfoldable pub stmt_text : Class → Code → StmtId → List ℕ
-stmt_text class code s = method_text_at class (method_of code s) ++ codes "#" ++ decimal (place_of code s)
+stmt_text class code s = method_text_at class (method_of code s) ++ place_text (place_of code s)
 
 abbrev pub locals_of : Class → MethodId → List Local
 locals_of class m = slice_index_or (map (λ (n : Method). body_locals n.body) (bodied class.methods)) m.0 []
@@ -72,9 +53,6 @@ line_of class code l = record { sink = l.sink; source = l.source; path = local_n
 
 abbrev pub line_text : Class → Code → Line → List ℕ
 line_text class code line = codes "leak " ++ stmt_text class code line.sink ++ codes " from " ++ stmt_text class code line.source ++ codes " at " ++ line.path ++ codes "\n"
-
-abbrev pub count_text : List ℕ → ℕ → List ℕ
-count_text word n = word ++ decimal n ++ codes "\n"
 
 -- lines stand in the order of their sinks, then of their sources, then of the bytes of their paths
 abbrev pub line_order : Line → Line → Ordering

@@ -1,6 +1,7 @@
 -- Which classes the solver works on so far. Every other class file is refused as not yet supported.
-use Rattle.std.specs.Prelude.{◌≡◌, ◌≤◌, ℕ, Bool, true, false, ◌&&◌, List, ◌∷◌, length, is_none, Contains}
+use Rattle.std.specs.Prelude.{◌≡◌, ◌≤◌, ◌+◌, ℕ, Bool, true, false, ◌&&◌, List, ◌∷◌, length, is_none, Contains}
 use Rattle.std.specs.List.{list_all}
+use Rattle.clean_base.specs.Limits.{most_classes, most_methods, most_stmts, most_fields}
 use Rattle.ifds_model.specs.Runs.{HasCount}
 use Rattle.jimple_tree.specs.Bodies.{bodied, all_stmts}
 use Rattle.jimple_tree.specs.declared.tree.Class.{Class}
@@ -41,12 +42,12 @@ heading_names c = c.name ∷ supertypes c
 -- on its methods with a body, on statements and on fields
 pub record IsSolved (c : Class) : Type 0 where
   pub apart : Contains (supertypes c) c.name → ⊥
-  pub names : (n : ℕ) × HasCount (Contains (heading_names c)) n × (n ≤ 65535)
-  pub methods : length (bodied c.methods) ≤ 32768
-  pub statements : length (all_stmts c.methods) ≤ 4194304
-  pub fields : length c.fields ≤ 1048574
+  pub names : (n : ℕ) × HasCount (Contains (heading_names c)) n × (n ≤ most_classes)
+  pub methods : length (bodied c.methods) ≤ most_methods
+  pub statements : length (all_stmts c.methods) ≤ most_stmts
+  pub fields : length c.fields + 2 ≤ most_fields
   pub plain : list_all is_plain (all_stmts c.methods) ≡ true
 
 -- the same without the limit on names. The public contracts don't cite this: it is what is tested first.
 abbrev pub IsSimple : Class → Type 0
-IsSimple c = (Contains (supertypes c) c.name → ⊥) × ((length (bodied c.methods) ≤ 32768) × (length (all_stmts c.methods) ≤ 4194304) × (length c.fields ≤ 1048574)) × (list_all is_plain (all_stmts c.methods) ≡ true)
+IsSimple c = (Contains (supertypes c) c.name → ⊥) × ((length (bodied c.methods) ≤ most_methods) × (length (all_stmts c.methods) ≤ most_stmts) × (length c.fields + 2 ≤ most_fields)) × (list_all is_plain (all_stmts c.methods) ≡ true)

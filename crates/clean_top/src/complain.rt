@@ -2,19 +2,26 @@
 ghost use Rattle.std.specs.Prelude.{◌≡◌, ◌-◌, ◌++◌, OnOk, IfOk, codes, decimal};
 ghost use Rattle.clean_top.specs.Answer.{Complains, OrMemory, Takes};
 ghost use Rattle.clean_top.specs.Status.{class_fault_text, fault_text, file_word, form_word, place_text, line_text, error_text};
+ghost use Rattle.clean_top.specs.Words.{in_order};
 
 use crate::status::Status;
+use crate::task::Named;
 use arrayvec::ArrayString;
-use clean_base::{Form, InputFault, Name, Sink, Word, put_all};
+use clean_base::{Form, InputFault, Name, Sink, put_all};
 use itoa::Buffer;
 use std::alloc::{AllocError, Global};
 
-// The name of a file of the words, by its place in the order of reading.
-fn file_of(words: &[Word], file: u32) -> &str
-    ensures { result.now ≡ file_word words.now file }
+// The name of a file, by its place in the order of reading.
+fn file_of(names: &Named, file: u32) -> &str
+    ensures { result.now ≡ file_word (in_order names.now) file }
 {
-    let place = if file == 0 { 5 } else { 4 };
-    match words.get(place) {
+    let classes = names.classes.as_slice();
+    let lists = names.lists.as_slice();
+    let place = file as usize;
+    if place < classes.len() {
+        return classes[place].as_str();
+    }
+    match lists.get(place - classes.len()) {
         Some(word) => word.as_str(),
         None => "",
     }
@@ -29,6 +36,27 @@ fn write_place(line: &mut Vec<u8>, name: &str, wrong: &[u8], at: u64) -> Result<
     line.extend_from_slice(b": ")?;
     line.extend_from_slice(wrong)?;
     line.extend_from_slice(buffer.format(at).as_bytes())
+}
+
+// The same, and a word behind it.
+fn write_place_and(
+    line: &mut Vec<u8>,
+    name: &str,
+    wrong: &[u8],
+    at: u64,
+    behind: &[u8],
+) -> Result<(), AllocError>
+    ensures { OnOk result (line.new.items ≡ line.old.items ++ (place_text name.now wrong.now at ++ behind.now)) }
+{
+    write_place(line, name, wrong, at)?;
+    line.extend_from_slice(behind)
+}
+
+// What is wrong with the whole input.
+fn write_whole(line: &mut Vec<u8>, wrong: &[u8]) -> Result<(), AllocError>
+    ensures { OnOk result (line.new.items ≡ line.old.items ++ wrong.now) }
+{
+    line.extend_from_slice(wrong)
 }
 
 // What is said of a word that isn't supported, up to its place.
@@ -52,67 +80,94 @@ fn write_class_fault(line: &mut Vec<u8>, class: &Name, wrong: &[u8]) -> Result<(
     line.extend_from_slice(wrong)
 }
 
-fn write_fault(line: &mut Vec<u8>, words: &[Word], fault: &InputFault) -> Result<(), AllocError>
-    ensures { OnOk result (line.new.items ≡ line.old.items ++ fault_text words.now fault.now) }
+fn write_fault(line: &mut Vec<u8>, names: &Named, fault: &InputFault) -> Result<(), AllocError>
+    ensures { OnOk result (line.new.items ≡ line.old.items ++ fault_text (in_order names.now) fault.now) }
 {
     match fault {
         InputFault::TooLong { file, at } => {
-            write_place(line, file_of(words, *file), b"longer than ", *at)?;
-            line.extend_from_slice(b" bytes")
+            write_place_and(line, file_of(names, *file), b"longer than ", *at, b" bytes")
         }
         InputFault::BadByte { file, at } => {
-            write_place(line, file_of(words, *file), b"byte not allowed at ", *at)
+            write_place(line, file_of(names, *file), b"byte not allowed at ", *at)
         }
         InputFault::OpenText { file, at } => {
-            write_place(line, file_of(words, *file), b"text not ended at ", *at)
+            write_place(line, file_of(names, *file), b"text not ended at ", *at)
         }
         InputFault::Syntax { file, at } => {
-            write_place(line, file_of(words, *file), b"syntax at ", *at)
+            write_place(line, file_of(names, *file), b"syntax at ", *at)
         }
         InputFault::Unsupported { file, at, form } => {
-            write_place(line, file_of(words, *file), refusal(*form), *at)
+            write_place(line, file_of(names, *file), refusal(*form), *at)
         }
         InputFault::TooMany { file, at } => {
-            write_place(line, file_of(words, *file), b"too many names at ", *at)
+            write_place(line, file_of(names, *file), b"too many names at ", *at)
         }
         InputFault::DoubleName { file, at } => {
-            write_place(line, file_of(words, *file), b"name given twice at ", *at)
+            write_place(line, file_of(names, *file), b"name given twice at ", *at)
         }
         InputFault::UnknownLocal { file, at } => {
-            write_place(line, file_of(words, *file), b"unknown local at ", *at)
+            write_place(line, file_of(names, *file), b"unknown local at ", *at)
         }
         InputFault::UnknownLabel { file, at } => {
-            write_place(line, file_of(words, *file), b"unknown label at ", *at)
+            write_place(line, file_of(names, *file), b"unknown label at ", *at)
         }
-        InputFault::LimitClasses => line.extend_from_slice(b"too many classes"),
-        InputFault::DoubleClass { class } => write_class_fault(line, class, b" given twice"),
-        InputFault::Cycle { class } => write_class_fault(line, class, b" is its own supertype"),
-        InputFault::LimitMethods => line.extend_from_slice(b"too many methods"),
-        InputFault::LimitStmts => line.extend_from_slice(b"too many statements"),
-        InputFault::EntryMissing => line.extend_from_slice(b"entry method not found"),
+        InputFault::BadLine { file, line: number } => write_place_and(
+            line,
+            file_of(names, *file),
+            b"line ",
+            *number,
+            b" not understood",
+        ),
+        InputFault::DoubleComponent { file, line: number } => write_place(
+            line,
+            file_of(names, *file),
+            b"component given twice in line ",
+            *number,
+        ),
+        InputFault::LimitClasses => write_whole(line, b"too many classes"),
+        InputFault::DoubleClass { name } => write_class_fault(line, name, b" given twice"),
+        InputFault::Cycle { name } => write_class_fault(line, name, b" is its own supertype"),
+        InputFault::LimitMethods => write_whole(line, b"too many methods"),
+        InputFault::LimitStmts => write_whole(line, b"too many statements"),
+        InputFault::ComponentMissing { name } => {
+            line.extend_from_slice(b"component ")?;
+            line.extend_from_slice(name.bytes())?;
+            line.extend_from_slice(b" not found")
+        }
+        InputFault::EntryMissing => write_whole(line, b"entry method not found"),
+        InputFault::LimitFields => write_whole(line, b"too many fields"),
         InputFault::NotYet { file } => {
-            line.extend_from_slice(file_of(words, *file).as_bytes())?;
+            line.extend_from_slice(file_of(names, *file).as_bytes())?;
             line.extend_from_slice(b": form not built yet")
+        }
+        InputFault::BadTrace { file, line: number } => {
+            write_place_and(
+                line,
+                file_of(names, *file),
+                b"trace line ",
+                *number,
+                b" not valid",
+            )
         }
     }
 }
 
 // The line of a fault of the input.
-fn fault_line(alloc: Global, words: &[Word], fault: &InputFault) -> Result<Vec<u8>, AllocError>
-    ensures { IfOk result (λ line. line.items ≡ line_text (fault_text words.now fault.now)) }
+fn fault_line(alloc: Global, names: &Named, fault: &InputFault) -> Result<Vec<u8>, AllocError>
+    ensures { IfOk result (λ line. line.items ≡ line_text (fault_text (in_order names.now) fault.now)) }
 {
     let mut line = Vec::from_slice(alloc, b"clean: ")?;
-    write_fault(&mut line, words, fault)?;
+    write_fault(&mut line, names, fault)?;
     line.extend_from_slice(b"\n")?;
     Ok(line)
 }
 
 // The line of a file that couldn't be read.
-fn read_line(alloc: Global, words: &[Word], file: u32) -> Result<Vec<u8>, AllocError>
-    ensures { IfOk result (λ line. line.items ≡ line_text (file_word words.now file ++ codes ": read fault")) }
+fn read_line(alloc: Global, names: &Named, file: u32) -> Result<Vec<u8>, AllocError>
+    ensures { IfOk result (λ line. line.items ≡ line_text (file_word (in_order names.now) file ++ codes ": read fault")) }
 {
     let mut line = Vec::from_slice(alloc, b"clean: ")?;
-    line.extend_from_slice(file_of(words, file).as_bytes())?;
+    line.extend_from_slice(file_of(names, file).as_bytes())?;
     line.extend_from_slice(b": read fault\n")?;
     Ok(line)
 }
@@ -130,16 +185,16 @@ fn write_fault_line(written: u64) -> ArrayString<128>
 }
 
 // Writes a line; a failure is passed over.
-fn say<E: Sink>(err: &mut E, line: &[u8])
+pub fn say<E: Sink>(err: &mut E, line: &[u8])
     ensures { Takes (E.taken err.old) (E.taken err.new) (E.faults err.old) (E.faults err.new) line.now }
 {
     let _ = put_all(err, line);
 }
 
-const USAGE: &[u8] =
+pub const USAGE: &[u8] =
     b"clean: usage: clean check, main, graph, serial, replay, solve or big, with its options and files\n";
 
-const MEMORY: &[u8] = b"clean: out of memory\n";
+pub const MEMORY: &[u8] = b"clean: out of memory\n";
 
 // The line of a limit that was passed. Making it takes no memory.
 fn limit_line(found: u64) -> ArrayString<128>
@@ -157,11 +212,11 @@ fn limit_line(found: u64) -> ArrayString<128>
 }
 
 // Writes the line of a fault of the input.
-fn say_fault<E: Sink>(alloc: Global, words: &[Word], fault: InputFault, err: &mut E) -> Status
+fn say_fault<E: Sink>(alloc: Global, names: &Named, fault: InputFault, err: &mut E) -> Status
     ensures status { OrMemory (Status.Input fault) result }
-    ensures line { Complains words.now (E.taken err.old) (E.taken err.new) (E.faults err.old) (E.faults err.new) result }
+    ensures line { Complains (in_order names.now) (E.taken err.old) (E.taken err.new) (E.faults err.old) (E.faults err.new) result }
 {
-    match fault_line(alloc, words, &fault) {
+    match fault_line(alloc, names, &fault) {
         Ok(line) => {
             say(err, line.as_slice());
             Status::Input(fault)
@@ -174,11 +229,11 @@ fn say_fault<E: Sink>(alloc: Global, words: &[Word], fault: InputFault, err: &mu
 }
 
 // Writes the line of a file that couldn't be read.
-fn say_read_fault<E: Sink>(alloc: Global, words: &[Word], file: u32, err: &mut E) -> Status
+fn say_read_fault<E: Sink>(alloc: Global, names: &Named, file: u32, err: &mut E) -> Status
     ensures status { OrMemory (Status.ReadFault file) result }
-    ensures line { Complains words.now (E.taken err.old) (E.taken err.new) (E.faults err.old) (E.faults err.new) result }
+    ensures line { Complains (in_order names.now) (E.taken err.old) (E.taken err.new) (E.faults err.old) (E.faults err.new) result }
 {
-    match read_line(alloc, words, file) {
+    match read_line(alloc, names, file) {
         Ok(line) => {
             say(err, line.as_slice());
             Status::ReadFault { file }
@@ -191,13 +246,13 @@ fn say_read_fault<E: Sink>(alloc: Global, words: &[Word], file: u32, err: &mut E
 }
 
 /// Writes the line of a status, and answers the status; where there is no memory for the line, that is the answer.
-pub fn complain<E: Sink>(alloc: Global, words: &[Word], status: Status, err: &mut E) -> Status
+pub fn complain<E: Sink>(alloc: Global, names: &Named, status: Status, err: &mut E) -> Status
     ensures status { OrMemory status result }
-    ensures line { Complains words.now (E.taken err.old) (E.taken err.new) (E.faults err.old) (E.faults err.new) result }
+    ensures line { Complains (in_order names.now) (E.taken err.old) (E.taken err.new) (E.faults err.old) (E.faults err.new) result }
 {
     match status {
-        Status::Input(fault) => return say_fault(alloc, words, fault, err),
-        Status::ReadFault { file } => return say_read_fault(alloc, words, file, err),
+        Status::Input(fault) => return say_fault(alloc, names, fault, err),
+        Status::ReadFault { file } => return say_read_fault(alloc, names, file, err),
         Status::Usage => say(err, USAGE),
         Status::OutOfMemory => say(err, MEMORY),
         Status::EdgeLimit { found } => say(err, limit_line(found).as_str().as_bytes()),

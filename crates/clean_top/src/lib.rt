@@ -1,17 +1,28 @@
 // The top call: the whole program over words, files and sinks. The reader of texts (`jimple_text`), lists
-// (`source_sink`), programs (`app_program`, `taint_problem`) and the solver (`solver_core`, `core_driver`) stand below;
-// `clean_cli` gives it the real files and streams.
+// (`source_sink`), tables of classes (`class_table`), call graphs (`call_graph`), programs (`app_program`, `taint_problem`)
+// and the solver (`solver_core`, `core_driver`) stand below; `clean_cli` gives it the real files and streams. A command is
+// a chain of stages (`clean_stage`) on the texts of its files; a further one adds its words, its task and its stages.
 #![tactic(auto)]
 
 mod complain;
+#[cfg(test)]
+mod devices;
+mod graph;
+mod output;
+mod printed;
+mod read;
 mod report;
 mod serve;
 mod solved;
 mod status;
+mod task;
 #[cfg(test)]
 mod tests;
-mod text;
 mod words;
+mod work;
 
+pub use output::Output;
+pub use read::{Text, Texts};
 pub use serve::clean_plain;
 pub use status::Status;
+pub use task::{Command, Named, Task};

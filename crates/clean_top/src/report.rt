@@ -1,15 +1,16 @@
 // The report: a line for each leak, and the numbers of path edges and contexts.
-ghost use Rattle.std.specs.Prelude.{◌≡◌, ◌≤◌, ◌++◌, OnOk, IfOk, IfSome, IfNone, List, codes, decimal, flat_map, length, map};
+ghost use Rattle.std.specs.Prelude.{◌≡◌, ◌≤◌, ◌++◌, OnOk, IfOk, IfSome, IfNone, List, codes, flat_map, length, map};
 ghost use Rattle.ifds_model.specs.State.{At};
 ghost use Rattle.jimple_tree.specs.Bodies.{bodied};
-ghost use Rattle.clean_top.specs.Report.{brackets, type_text, types_text, front_text, method_text, method_text_at, method_of, place_of, stmt_text, locals_of, local_name, line_of, line_text, count_text, report_text, Shows, Reports};
+ghost use Rattle.clean_top.specs.Report.{method_text_at, method_of, place_of, stmt_text, locals_of, local_name, line_of, line_text, report_text, Shows, Reports};
 ghost use Rattle.ifds_model.specs.Runs.{IsEdge, IsContext, IsLeak, Lists, HasCount};
 ghost use Rattle.clean_top.specs.declared.report.Line.{Line};
 
-use clean_base::{LocalId, MethodId, Name, Seq, StmtId};
+use crate::output::Output;
+use crate::printed::{write_count, write_method, write_place};
+use clean_base::{LocalId, MethodId, Seq, StmtId};
 use ifds_model::{Leak, Problem};
-use itoa::Buffer;
-use jimple_tree::{Class, JType, Local, Method};
+use jimple_tree::{Class, Local, Method};
 use std::alloc::{AllocError, Global};
 use std::marker::Model;
 use taint_problem::Code;
@@ -65,71 +66,6 @@ impl<'a> Numbered<'a> {
     }
 }
 
-fn write_number(out: &mut Vec<u8>, n: u64) -> Result<(), AllocError>
-    ensures { OnOk result (out.new.items ≡ out.old.items ++ decimal n) }
-{
-    let mut buffer = Buffer::new();
-    out.extend_from_slice(buffer.format(n).as_bytes())
-}
-
-fn write_brackets(out: &mut Vec<u8>, dims: u64) -> Result<(), AllocError>
-    ensures { OnOk result (out.new.items ≡ out.old.items ++ brackets dims) }
-{
-    for _pair in 0..dims {
-        out.extend_from_slice(b"[]")?;
-    }
-    Ok(())
-}
-
-fn write_type(out: &mut Vec<u8>, ty: &JType) -> Result<(), AllocError>
-    ensures { OnOk result (out.new.items ≡ out.old.items ++ type_text ty.now) }
-{
-    out.extend_from_slice(ty.base.bytes())?;
-    write_brackets(out, ty.dims)
-}
-
-fn write_types(out: &mut Vec<u8>, types: &[JType]) -> Result<(), AllocError>
-    ensures { OnOk result (out.new.items ≡ out.old.items ++ types_text types.now) }
-{
-    if let [first, rest @ ..] = types {
-        write_type(out, first)?;
-        return write_more_types(out, rest);
-    }
-    Ok(())
-}
-
-fn write_more_types(out: &mut Vec<u8>, types: &[JType]) -> Result<(), AllocError>
-    ensures { OnOk result (out.new.items ≡ out.old.items ++ flat_map (λ u. codes "," ++ type_text u) types.now) }
-{
-    for ty in types {
-        out.extend_from_slice(b",")?;
-        write_type(out, ty)?;
-    }
-    Ok(())
-}
-
-// The class and the result type of a method.
-fn write_front(out: &mut Vec<u8>, class: &Name, ty: &JType) -> Result<(), AllocError>
-    ensures { OnOk result (out.new.items ≡ out.old.items ++ front_text class.now ty.now) }
-{
-    out.extend_from_slice(b"<")?;
-    out.extend_from_slice(class.bytes())?;
-    out.extend_from_slice(b": ")?;
-    write_type(out, ty)?;
-    out.extend_from_slice(b" ")
-}
-
-// The text of a method of the class with that name.
-fn write_method(out: &mut Vec<u8>, class: &Name, method: &Method) -> Result<(), AllocError>
-    ensures { OnOk result (out.new.items ≡ out.old.items ++ method_text class.now method.now) }
-{
-    write_front(out, class, &method.result)?;
-    out.extend_from_slice(method.name.bytes())?;
-    out.extend_from_slice(b"(")?;
-    write_types(out, method.params.as_slice())?;
-    out.extend_from_slice(b")>")
-}
-
 // The text of the method with that number, where there is one.
 fn write_method_at(out: &mut Vec<u8>, class: &Numbered<'_>, m: MethodId) -> Result<(), AllocError>
     ensures { OnOk result (out.new.items ≡ out.old.items ++ method_text_at class.now m) }
@@ -171,8 +107,7 @@ fn write_stmt(
     ensures { OnOk result (out.new.items ≡ out.old.items ++ stmt_text class.now code.now s) }
 {
     write_method_at(out, class, method_of(code, s))?;
-    out.extend_from_slice(b"#")?;
-    write_number(out, place_of(code, s) as u64)
+    write_place(out, place_of(code, s))
 }
 
 // The locals of the method with that number.
@@ -272,22 +207,6 @@ fn write_lines(
     Ok(())
 }
 
-// A word, a number and the end of the line.
-fn write_count(out: &mut Vec<u8>, word: &[u8], n: u64) -> Result<(), AllocError>
-    ensures { OnOk result (out.new.items ≡ out.old.items ++ count_text word.now n) }
-{
-    out.extend_from_slice(word)?;
-    write_number(out, n)?;
-    out.extend_from_slice(b"\n")
-}
-
-/// The text of a report, and whether it has leaks.
-#[derive(Debug, Drop)]
-pub struct Report {
-    pub text: Vec<u8>,
-    pub leaky: bool,
-}
-
 // The text of a report with these lines.
 fn write_report(
     alloc: Global,
@@ -315,17 +234,17 @@ pub fn make_report<P: Problem<Mark = Leak>>(
     leaks: &[Leak],
     edges: u64,
     contexts: u64,
-) -> Result<Report, AllocError>
+) -> Result<Output, AllocError>
     requires leaks { Lists (IsLeak (P.machine problem.now)) leaks.now }
     requires edges { HasCount (IsEdge (P.machine problem.now)) edges }
     requires contexts { HasCount (IsContext (P.machine problem.now)) contexts }
-    ensures { IfOk result (λ r. Reports (P.machine problem.now) class.now code.now edges r.text.items r.leaky) }
+    ensures { IfOk result (λ r. Reports (P.machine problem.now) class.now code.now edges r.text r.leaky) }
 {
     let class = Numbered::new(alloc, class)?;
     let lines = sorted_lines(alloc, &class, code, leaks)?;
     let text = write_report(alloc, &class, code, lines.as_slice(), edges, contexts)?;
-    Ok(Report {
-        text,
+    Ok(Output {
+        text: Seq::from_vec(text),
         leaky: lines.len() > 0,
     })
 }

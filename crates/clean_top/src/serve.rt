@@ -1,39 +1,51 @@
-// The top call: from words and files to a report on the output, or a status that says why there is none.
-ghost use Rattle.std.specs.Prelude.{◌≡◌, ◌⊎◌, ◌≤◌, List, ℕ};
-ghost use Rattle.clean_top.specs.Answer.{Serves, IsRefused, Writes, Complains, read_status};
-ghost use Rattle.clean_top.specs.Told.{told};
-ghost use Rattle.clean_top.specs.Words.{Asked, Asks, IsUsage};
+// The top call: from words and files to an output, or a status that says why there is none.
+ghost use Rattle.std.specs.Prelude.{◌≡◌, ◌≤◌, List, ℕ, length, IfErr};
+ghost use Rattle.clean_top.specs.Answer.{Serves, IsRefused, Writes, Complains, run_of, halted};
+ghost use Rattle.clean_top.specs.Meaning.{means};
+ghost use Rattle.clean_top.specs.Reading.{Reads, IsHaltAmong};
+ghost use Rattle.clean_top.specs.Words.{Asks, AreNamed, HasFiles, IsUsage, in_order};
+ghost use Rattle.clean_top.specs.declared.task.Command.{Command};
 
-use crate::complain::complain;
-use crate::report::Report;
+use crate::complain::{MEMORY, USAGE, complain, say};
+use crate::output::Output;
+use crate::read::{ReadHalt, read_named};
 use crate::status::Status;
-use crate::text::{TextStop, read_and_report};
-use crate::words::{Words, parse};
-use clean_base::{InputFault, ReadStop, Shelf, Sink, Word, put_all, read_all};
+use crate::task::Command;
+use crate::words::parse;
+use crate::work::work;
+use clean_base::{Shelf, Sink, Word, put_all};
+use clean_stage::{Halt, Refusal};
 use std::alloc::Global;
 
-// The most bytes of class text, and of a list.
-const CLASS_ROOM: u64 = 268435456;
-
-const LIST_ROOM: u64 = 16777216;
-
-// How a call ends that couldn't read a file.
-fn of_read(stop: ReadStop, file: u32) -> Status
-    ensures { result ≡ read_status stop file }
+// Reads the files of a command, and does its work.
+fn answer<S: Shelf>(alloc: Global, command: &Command, shelf: &mut S) -> Result<Output, ReadHalt>
+    requires { HasFiles command.now }
+    ensures read { Reads (S.holds shelf.old) (S.faults shelf.old) (S.faults shelf.new) (in_order command.now.names) 0 (means command.now) result }
+    ensures among { IfErr result (IsHaltAmong (length (in_order command.now.names))) }
+    ensures same { (other : List ℕ) → S.holds shelf.new other ≡ S.holds shelf.old other }
+    ensures later { (other : List ℕ) → S.faults shelf.old other ≤ S.faults shelf.new other }
 {
-    match stop {
-        ReadStop::ReadFault => Status::ReadFault { file },
-        ReadStop::TooLong { at } => Status::Input(InputFault::TooLong { file, at }),
-        ReadStop::OutOfMemory => Status::OutOfMemory,
+    let texts = read_named(alloc, shelf, &command.names)?;
+    Ok(work(alloc, &command.task, &texts)?)
+}
+
+fn halted(halt: ReadHalt) -> Status
+    ensures { result ≡ halted halt }
+{
+    match halt {
+        ReadHalt::ReadFault { file } => Status::ReadFault { file },
+        ReadHalt::Halt(Halt::Refused(Refusal::Fault(fault))) => Status::Input(fault),
+        ReadHalt::Halt(Halt::Refused(Refusal::EdgeLimit { found })) => Status::EdgeLimit { found },
+        ReadHalt::Halt(Halt::OutOfMemory) => Status::OutOfMemory,
     }
 }
 
-// Writes a report.
-fn write_out<K: Sink>(out: &mut K, report: &Report) -> Status
-    ensures { Writes (K.taken out.old) (K.taken out.new) (K.faults out.old) (K.faults out.new) report.now.text.items report.now.leaky result }
+// Writes an output.
+fn write_out<K: Sink>(out: &mut K, output: &Output) -> Status
+    ensures { Writes (K.taken out.old) (K.taken out.new) (K.faults out.old) (K.faults out.new) output.now result }
 {
-    match put_all(out, report.text.as_slice()) {
-        Ok(()) if report.leaky => Status::Leaks,
+    match put_all(out, output.text.as_slice()) {
+        Ok(()) if output.leaky => Status::Leaks,
         Ok(()) => Status::Clean,
         Err(fault) => Status::WriteFault {
             written: fault.written,
@@ -41,37 +53,15 @@ fn write_out<K: Sink>(out: &mut K, report: &Report) -> Status
     }
 }
 
-// Reads the files, and writes their report.
-fn serve<S: Shelf, K: Sink>(alloc: Global, asked: &Words<'_>, shelf: &mut S, out: &mut K) -> Status
-    ensures serves { Serves (record { holds = S.holds shelf.old; before = S.faults shelf.old; now = S.faults shelf.new; old = K.taken out.old; new = K.taken out.new; first = K.faults out.old; last = K.faults out.new }) (told asked.now) result }
+// Serves a command, without a line on the error sink.
+fn serve<S: Shelf, K: Sink>(alloc: Global, command: &Command, shelf: &mut S, out: &mut K) -> Status
+    requires { HasFiles command.now }
+    ensures serves { Serves (run_of S.holds S.faults K.taken K.faults shelf.old shelf.new out.old out.new) command.now result }
     ensures same { (name : List ℕ) → S.holds shelf.new name ≡ S.holds shelf.old name }
 {
-    let class = match read_all(alloc, shelf, asked.file, CLASS_ROOM) {
-        Ok(class) => class,
-        Err(stop) => return of_read(stop, 0),
-    };
-    let list = match read_all(alloc, shelf, asked.lists, LIST_ROOM) {
-        Ok(list) => list,
-        Err(stop) => return of_read(stop, 1),
-    };
-    match read_and_report(alloc, &asked.entry, class.as_slice(), list.as_slice()) {
-        Ok(report) => write_out(out, &report),
-        Err(TextStop::Fault(fault)) => Status::Input(fault),
-        Err(TextStop::EdgeLimit { found }) => Status::EdgeLimit { found },
-        Err(TextStop::OutOfMemory) => Status::OutOfMemory,
-    }
-}
-
-// Serves the words, without a line on the error sink.
-fn answer<S: Shelf, K: Sink>(alloc: Global, words: &[Word], shelf: &mut S, out: &mut K) -> Status
-    ensures serves { (asked : Asked) → Asks words.now asked → Serves (record { holds = S.holds shelf.old; before = S.faults shelf.old; now = S.faults shelf.new; old = K.taken out.old; new = K.taken out.new; first = K.faults out.old; last = K.faults out.new }) asked result }
-    ensures usage { IsUsage words.now → IsRefused (K.taken out.old) (K.taken out.new) result }
-    ensures same { (name : List ℕ) → S.holds shelf.new name ≡ S.holds shelf.old name }
-{
-    match parse(alloc, words) {
-        Ok(Some(asked)) => serve(alloc, &asked, shelf, out),
-        Ok(None) => Status::Usage,
-        Err(_) => Status::OutOfMemory,
+    match answer(alloc, command, shelf) {
+        Ok(output) => write_out(out, &output),
+        Err(halt) => halted(halt),
     }
 }
 
@@ -87,15 +77,27 @@ pub fn clean_plain<S: Shelf, K: Sink, E: Sink>(
     err: &mut E,
 ) -> Status
     // What was asked for is served: the status says so much and no more, and no other may come.
-    ensures serves { (asked : Asked) → Asks words.now asked → Serves (record { holds = S.holds shelf.old; before = S.faults shelf.old; now = S.faults shelf.new; old = K.taken out.old; new = K.taken out.new; first = K.faults out.old; last = K.faults out.new }) asked result }
+    ensures serves { (command : Command) → Asks words.now command → Serves (run_of S.holds S.faults K.taken K.faults shelf.old shelf.new out.old out.new) command result }
     ensures usage { IsUsage words.now → IsRefused (K.taken out.old) (K.taken out.new) result }
 
     // The shelf holds what it held, so a second call on these words means the same.
     ensures same { (name : List ℕ) → S.holds shelf.new name ≡ S.holds shelf.old name }
 
-    // The error sink takes the line of the status, and nothing else.
-    ensures line { Complains words.now (E.taken err.old) (E.taken err.new) (E.faults err.old) (E.faults err.new) result }
+    // The error sink takes the line of the status, with the names of the words, and nothing else.
+    ensures line { (names : List (List ℕ)) → AreNamed words.now names → Complains names (E.taken err.old) (E.taken err.new) (E.faults err.old) (E.faults err.new) result }
 {
-    let status = answer(alloc, words, shelf, out);
-    complain(alloc, words, status, err)
+    match parse(alloc, words) {
+        Ok(Some(command)) => {
+            let status = serve(alloc, &command, shelf, out);
+            complain(alloc, &command.names, status, err)
+        }
+        Ok(None) => {
+            say(err, USAGE);
+            Status::Usage
+        }
+        Err(_) => {
+            say(err, MEMORY);
+            Status::OutOfMemory
+        }
+    }
 }

@@ -1,30 +1,20 @@
 // Which classes the solver works on so far. Trees of classes stand below; the reader of classes above.
-ghost use Rattle.std.specs.Prelude.{◌≡◌, ◌≤◌, ◌↔◌, ◌++◌, ◌∷◌, [], ℕ, IfOk, OnOk, IsTrue, Contains, length, nat_eq};
+ghost use Rattle.std.specs.Prelude.{◌≡◌, ◌≤◌, ◌+◌, ◌↔◌, ◌++◌, ◌∷◌, [], ℕ, IfOk, OnOk, IsTrue, Contains, length, nat_eq};
 ghost use Rattle.std.specs.HashSet.{IsFromIterResult};
 ghost use Rattle.std.specs.List.{list_all};
 ghost use lib.Pointwise.{pointwise};
+ghost use Rattle.clean_base.specs.Limits.{most_methods, most_stmts, most_fields};
 ghost use Rattle.ifds_model.specs.Runs.{HasCount};
-ghost use Rattle.jimple_tree.specs.Bodies.{bodied, body_stmts, all_stmts};
+ghost use Rattle.jimple_tree.specs.Bodies.{bodied, stmts_of, all_stmts};
 ghost use Rattle.jimple_tree.specs.declared.tree.Method.{Method};
 ghost use Rattle.app_program.specs.Calls.{supertypes};
 ghost use Rattle.clean_top.specs.Solved.{IsSimple, IsSolved, heading_names, is_plain, is_plain_place, is_plain_rhs};
 
 use clean_base::Name;
-use jimple_tree::{Body, Class, Given, Method, Place, Rhs, Stmt};
+use clean_base::limits::{MOST_CLASSES, MOST_FIELDS, MOST_METHODS, MOST_STMTS};
+use jimple_tree::{Class, Given, Method, Place, Rhs, Stmt, stmts_of};
 use std::alloc::{AllocError, Global};
 use std::collections::HashSet;
-
-// The most different names in the heading of a class.
-const NAMES: usize = 65535;
-
-// The most methods with a body.
-const METHODS: usize = 32768;
-
-// The most statements.
-const STATEMENTS: usize = 4194304;
-
-// The most fields.
-const FIELDS: usize = 1048574;
 
 fn is_plain_place(place: &Place) -> bool
     ensures { result ≡ is_plain_place place.now }
@@ -60,16 +50,6 @@ fn is_plain(stmt: &Stmt) -> bool
     }
 }
 
-// The statements of a method.
-fn stmts_of(body: &Option<Body>) -> &[Stmt]
-    ensures { result.now ≡ body_stmts body.now }
-{
-    match body {
-        Some(body) => body.stmts.as_slice(),
-        None => &[],
-    }
-}
-
 fn are_plain(stmts: &[Stmt]) -> bool
     ensures { result ≡ list_all is_plain stmts.now }
 {
@@ -78,9 +58,9 @@ fn are_plain(stmts: &[Stmt]) -> bool
 
 // Whether each statement of each method is plain.
 fn are_each_plain(methods: &[Method]) -> bool
-    ensures { result ≡ list_all (λ (m : Method). list_all is_plain (body_stmts m.body)) methods.now }
+    ensures { result ≡ list_all (λ (m : Method). list_all is_plain (stmts_of m)) methods.now }
 {
-    methods.iter().all(|m| are_plain(stmts_of(&m.body)))
+    methods.iter().all(|m| are_plain(stmts_of(m)))
 }
 
 fn have_plain(methods: &[Method]) -> bool
@@ -91,11 +71,11 @@ fn have_plain(methods: &[Method]) -> bool
 
 // Whether the methods have no more statements than there may be.
 fn have_few(methods: &[Method]) -> bool
-    ensures { IsTrue result ↔ (length (all_stmts methods.now) ≤ 4194304) }
+    ensures { IsTrue result ↔ (length (all_stmts methods.now) ≤ most_stmts) }
 {
-    let mut left = STATEMENTS;
+    let mut left = MOST_STMTS;
     for method in methods {
-        let count = stmts_of(&method.body).len();
+        let count = stmts_of(method).len();
         if left < count {
             return false;
         }
@@ -129,7 +109,7 @@ fn is_above_itself(class: &Class) -> bool
 fn add_name(alloc: Global, names: &mut Vec<Name>, name: &Name) -> Result<(), AllocError>
     ensures { OnOk result (names.new.items ≡ names.old.items ++ name.now ∷ []) }
 {
-    names.push(Name::from_vec(Vec::from_slice(alloc, name.bytes())?))?;
+    names.push(name.copy(alloc)?)?;
     Ok(())
 }
 
@@ -172,10 +152,12 @@ fn count_names(alloc: Global, names: Vec<Name>) -> Result<usize, AllocError>
 // Whether the class keeps the limits on what it has.
 fn is_small(class: &Class) -> bool
     ensures { IsTrue result
-        ↔ ((length (bodied class.now.methods) ≤ 32768) × (length (all_stmts class.now.methods) ≤ 4194304) × (length class.now.fields ≤ 1048574)) }
+        ↔ ((length (bodied class.now.methods) ≤ most_methods) × (length (all_stmts class.now.methods) ≤ most_stmts) × (length class.now.fields + 2 ≤ most_fields)) }
 {
     let methods = class.methods.as_slice();
-    bodies(methods) <= METHODS && have_few(methods) && class.fields.as_slice().len() <= FIELDS
+    bodies(methods) <= MOST_METHODS
+        && have_few(methods)
+        && class.fields.as_slice().len() <= MOST_FIELDS - 2
 }
 
 // Whether the class is of plain statements, isn't its own supertype and keeps the limits, but for that on names.
@@ -193,5 +175,5 @@ pub fn is_solved(alloc: Global, class: &Class) -> Result<bool, AllocError>
         return Ok(false);
     }
     let names = heading_names(alloc, class)?;
-    Ok(count_names(alloc, names)? <= NAMES)
+    Ok(count_names(alloc, names)? <= MOST_CLASSES)
 }

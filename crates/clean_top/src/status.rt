@@ -1,9 +1,8 @@
-// How a call ends, and the line that says why it refused.
-ghost use Rattle.std.specs.Prelude.{◌≡◌, ◌++◌, OnOk, IfOk, codes, decimal};
-ghost use Rattle.clean_top.specs.Status.{code_of, fault_text, file_word};
+// How a call ends.
+ghost use Rattle.std.specs.Prelude.{◌≡◌};
+ghost use Rattle.clean_top.specs.Status.{code_of};
 
-use clean_base::{InputFault, Word};
-use std::alloc::{AllocError, Global};
+use clean_base::InputFault;
 
 /// How a call ends (docs/COMMANDS.md, "Statuses").
 #[derive(Debug, Drop, PartialEq, Eq)]

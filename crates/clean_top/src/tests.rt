@@ -1,35 +1,88 @@
 // Worked command lines over files and sinks in memory: what is written, to which sink, and the code.
 use crate::clean_plain;
-use crate::solved::is_solved;
 use clean_base::{MemFile, MemShelf, MemSink, Name, Seq, Word};
-use jimple_text::read_classes;
 use std::alloc::{AllocError, Global};
 use std::process::Abort;
 use std::test::Fail;
 
-const LIST: &str = "<S: int src()> -> _SOURCE_\n<S: void snk(int)> -> _SINK_\n";
+const LIST: &[u8] = b"<S: int src()> -> _SOURCE_\n<S: void snk(int)> -> _SINK_\n";
 
-// What a call came to.
-#[derive(Drop)]
-struct Served {
-    out: Vec<u8>,
-    err: Vec<u8>,
-    code: u8,
-}
+const BAD_LIST: &[u8] = b"<S: int src()> => _SOURCE_\n";
 
-// What should come.
+const LEAK: &str =
+    "public class A extends java.lang.Object { public static void m() { int i0; i0 = staticinvoke <S: int src()>(); staticinvoke <S: void snk(int)>(i0); return; } }";
+
+const WORDS: [&str; 6] = [
+    "serial",
+    "--entry",
+    "<A: void m()>",
+    "--lists",
+    "L",
+    "A.jimple",
+];
+
+const GRAPH: &[&str] = &[
+    "graph",
+    "--entry",
+    "<A: void m()>",
+    "--lists",
+    "L",
+    "A.jimple",
+];
+
+const GRAPH_TWICE: &[&str] = &[
+    "graph",
+    "--entry",
+    "<A: void m()>",
+    "--lists",
+    "L",
+    "A.jimple",
+    "A.jimple",
+];
+
+const GRAPH_OF_TWO: &[&str] = &[
+    "graph",
+    "--entry",
+    "<A: void m()>",
+    "--lists",
+    "L",
+    "A.jimple",
+    "B.jimple",
+];
+
+const GRAPH_OF_FOUR: &[&str] = &[
+    "graph",
+    "--entry",
+    "<A: void m()>",
+    "--lists",
+    "L",
+    "A.jimple",
+    "B.jimple",
+    "C.jimple",
+    "D.jimple",
+];
+
+// A call: its words, the files `A.jimple` and `L` and others, which calls of the shelf fail, and the room on the output and
+// on the error sink. And what should come.
 #[derive(Clone, Copy)]
-struct Case<'a> {
-    body: &'a str,
-    list: &'a str,
-    entry: &'a str,
+struct Row<'a> {
+    words: &'a [&'a str],
+    class: &'a str,
+    list: &'a [u8],
+    others: &'a [(&'a str, &'a str)],
+    fail: &'a [u64],
+    room: u64,
+    err_room: u64,
     out: &'a str,
     err: &'a str,
     code: u8,
 }
 
-fn name_of(alloc: Global, text: &str) -> Result<Name, AllocError> {
-    Ok(Name::from_vec(Vec::from_slice(alloc, text.as_bytes())?))
+fn file_of(alloc: Global, name: &str, bytes: &[u8]) -> Result<MemFile, AllocError> {
+    Ok(MemFile {
+        name: Name::from_vec(Vec::from_slice(alloc, name.as_bytes())?),
+        bytes: Seq::from_vec(Vec::from_slice(alloc, bytes)?),
+    })
 }
 
 fn words_of(alloc: Global, texts: &[&str]) -> Result<Vec<Word>, AllocError> {
@@ -40,398 +93,486 @@ fn words_of(alloc: Global, texts: &[&str]) -> Result<Vec<Word>, AllocError> {
     Ok(words)
 }
 
-// A class file `A.jimple` with these methods.
-fn class_with(alloc: Global, supertype: &str, methods: &str) -> Result<String, AllocError> {
-    format!(in alloc; "public class A extends {supertype} {{ {methods} }}")
-}
-
-// A class file `A.jimple` with one method `m` of this body.
-fn class_of(alloc: Global, body: &str) -> Result<String, AllocError> {
-    let method = format!(in alloc; "public static void m() {{ {body} }}")?;
-    class_with(alloc, "java.lang.Object", method.as_str())
-}
-
-fn shelf_of(alloc: Global, class: &str, list: &[u8], fail: &[u64]) -> Result<MemShelf, AllocError> {
+// Serves the words of a row, and compares.
+fn expect(rt: &impl Abort, alloc: Global, row: &Row<'_>) -> Result<(), AllocError> {
+    let words = words_of(alloc, row.words)?;
     let mut files = Vec::new(alloc);
-    files.push(MemFile {
-        name: name_of(alloc, "A.jimple")?,
-        bytes: Seq::from_vec(Vec::from_slice(alloc, class.as_bytes())?),
-    })?;
-    files.push(MemFile {
-        name: name_of(alloc, "L")?,
-        bytes: Seq::from_vec(Vec::from_slice(alloc, list)?),
-    })?;
-    Ok(MemShelf::new(files, Vec::from_slice(alloc, fail)?))
-}
-
-// Serves the words over a shelf, with so much room on the output and on the error sink.
-fn serve(
-    alloc: Global,
-    words: &[&str],
-    mut shelf: MemShelf,
-    room: u64,
-    err_room: u64,
-) -> Result<Served, AllocError> {
-    let words = words_of(alloc, words)?;
-    let mut out = MemSink::new(alloc, room)?;
-    let mut err = MemSink::new(alloc, err_room)?;
+    files.push(file_of(alloc, "A.jimple", row.class.as_bytes())?)?;
+    files.push(file_of(alloc, "L", row.list)?)?;
+    for (name, text) in row.others {
+        files.push(file_of(alloc, name, text.as_bytes())?)?;
+    }
+    let mut shelf = MemShelf::new(files, Vec::from_slice(alloc, row.fail)?);
+    let mut out = MemSink::new(alloc, row.room)?;
+    let mut err = MemSink::new(alloc, row.err_room)?;
     let status = clean_plain(alloc, words.as_slice(), &mut shelf, &mut out, &mut err);
-    Ok(Served {
-        out: Vec::from_slice(alloc, out.bytes())?,
-        err: Vec::from_slice(alloc, err.bytes())?,
-        code: status.code(),
-    })
-}
-
-fn expect(rt: &impl Abort, served: &Served, out: &str, err: &str, code: u8) {
-    assert_eq!(rt; served.out.as_slice(), out.as_bytes());
-    assert_eq!(rt; served.err.as_slice(), err.as_bytes());
-    assert_eq!(rt; served.code, code);
-}
-
-fn expect_case(rt: &impl Abort, alloc: Global, case: &Case<'_>) -> Result<(), AllocError> {
-    let class = class_of(alloc, case.body)?;
-    let shelf = shelf_of(alloc, class.as_str(), case.list.as_bytes(), &[])?;
-    let words = ["serial", "--entry", case.entry, "--lists", "L", "A.jimple"];
-    let served = serve(alloc, &words, shelf, 4096, 4096)?;
-    expect(rt, &served, case.out, case.err, case.code);
+    assert_eq!(rt; out.bytes(), row.out.as_bytes());
+    assert_eq!(rt; err.bytes(), row.err.as_bytes());
+    assert_eq!(rt; status.code(), row.code);
     Ok(())
 }
+
+const PLAIN: Row<'static> = Row {
+    words: &WORDS,
+    class: LEAK,
+    list: LIST,
+    others: &[],
+    fail: &[],
+    room: 4096,
+    err_room: 4096,
+    out: "",
+    err: "",
+    code: 0,
+};
 
 #[test]
 fn smallest_leak(rt: HostRuntime) -> Result<(), Fail> {
-    let body =
-        "int i0; i0 = staticinvoke <S: int src()>(); staticinvoke <S: void snk(int)>(i0); return;";
-    expect_case(
-        &rt,
-        rt.alloc(),
-        &Case {
-            body,
-            list: LIST,
-            entry: "<A: void m()>",
-            out: "leak <A: void m()>#1 from <A: void m()>#0 at i0\nedges 5\ncontexts 1\n",
-            err: "",
-            code: 1,
-        },
-    )?;
+    let row = Row {
+        out: "leak <A: void m()>#1 from <A: void m()>#0 at i0\nedges 5\ncontexts 1\n",
+        code: 1,
+        ..PLAIN
+    };
+    expect(&rt, rt.alloc(), &row)?;
     Ok(())
 }
 
 #[test]
-fn worked_rows(rt: HostRuntime) -> Result<(), Fail> {
-    let bad_list = "<S: int src()> => _SOURCE_\n";
-    let usage =
-        "clean: usage: clean check, main, graph, serial, replay, solve or big, with its options and files\n";
-    let unbuilt = "clean: A.jimple: form not built yet\n";
-    // The body, the list, the entry, the output, the line on the error sink, and the code.
-    let cases = [
+fn reports(rt: HostRuntime) -> Result<(), Fail> {
+    // The class file and the output. The numbers of edges are counted by hand: for each context how many statements each
+    // fact reaches.
+    let rows = [
         (
-            "return;",
-            LIST,
-            "<A: void m()>",
+            "public class A extends java.lang.Object { public static void m() { return; } }",
             "edges 1\ncontexts 1\n",
-            "",
-            0,
         ),
         (
-            "int i0; i0 = staticinvoke <S: int src()>(); i0 = 0; staticinvoke <S: void snk(int)>(i0); return;",
-            LIST,
-            "<A: void m()>",
+            "public class A extends java.lang.Object { public static void m() { int i0; i0 = staticinvoke <S: int src()>(); i0 = 0; staticinvoke <S: void snk(int)>(i0); return; } }",
             "edges 5\ncontexts 1\n",
-            "",
-            0,
         ),
         (
-            "int i0, i1; i0 = staticinvoke <S: int src()>(); i1 = i0; staticinvoke <S: void snk(int)>(i1); return;",
-            LIST,
-            "<A: void m()>",
+            "public class A extends java.lang.Object { public static void m() { int i0, i1; i0 = staticinvoke <S: int src()>(); i1 = i0; staticinvoke <S: void snk(int)>(i1); return; } }",
             "leak <A: void m()>#2 from <A: void m()>#0 at i1\nedges 9\ncontexts 1\n",
-            "",
-            1,
         ),
         (
-            "int b, a; b = staticinvoke <S: int src()>(); b = b; a = staticinvoke <T: int f(int,int)>(b, 1); staticinvoke <S: void snk(int)>(b); staticinvoke <S: void snk(int)>(a); return;",
-            LIST,
-            "<A: void m()>",
+            "public class A extends java.lang.Object { public static void m() { int b, a; b = staticinvoke <S: int src()>(); b = b; a = staticinvoke <T: int f(int,int)>(b, 1); staticinvoke <S: void snk(int)>(b); staticinvoke <S: void snk(int)>(a); return; } }",
             "leak <A: void m()>#3 from <A: void m()>#0 at b\nleak <A: void m()>#4 from <A: void m()>#0 at a\nedges 14\ncontexts 1\n",
-            "",
-            1,
         ),
         (
-            "throw 1; return;",
-            LIST,
-            "<A: void m()>",
+            "public class A extends java.lang.Object { public static void m() { throw 1; return; } }",
             "edges 1\ncontexts 1\n",
-            "",
-            0,
         ),
-        (
-            "<A: int f> = 0; return;",
-            LIST,
-            "<A: void m()>",
-            "",
-            unbuilt,
-            3,
-        ),
-        (
-            "<A: int f> = 0; return;",
-            bad_list,
-            "<A: void n()>",
-            "",
-            unbuilt,
-            3,
-        ),
-        (
-            "return;",
-            bad_list,
-            "<A: void n()>",
-            "",
-            "clean: L: form not built yet\n",
-            3,
-        ),
-        (
-            "return;",
-            LIST,
-            "<A: void n()>",
-            "",
-            "clean: entry method not found\n",
-            3,
-        ),
-        ("return;", LIST, "<A: void m( )>", "", usage, 2),
-    ];
-    for (body, list, entry, out, err, code) in cases {
-        let case = Case {
-            body,
-            list,
-            entry,
-            out,
-            err,
-            code,
-        };
-        expect_case(&rt, rt.alloc(), &case)?;
-    }
-    Ok(())
-}
-
-#[test]
-fn calls_and_returns(rt: HostRuntime) -> Result<(), Fail> {
-    // The class that is extended, the methods, and the output. The numbers of edges are counted by hand: for each context
-    // how many statements each fact reaches.
-    let cases = [
         // Zero 5, i0 4, i1 3; `id` from zero 2, and from its parameter 3.
         (
-            "java.lang.Object",
-            "public static void m() { int i0, i1, i2; i0 = staticinvoke <S: int src()>(); i1 = staticinvoke <A: int id(int)>(i0); i2 = staticinvoke <A: int id(int)>(0); staticinvoke <S: void snk(int)>(i2); return; }
-             public static int id(int) { int x; x := @parameter0: int; return x; }",
+            "public class A extends java.lang.Object { public static void m() { int i0, i1, i2; i0 = staticinvoke <S: int src()>(); i1 = staticinvoke <A: int id(int)>(i0); i2 = staticinvoke <A: int id(int)>(0); staticinvoke <S: void snk(int)>(i2); return; } public static int id(int) { int x; x := @parameter0: int; return x; } }",
             "edges 17\ncontexts 3\n",
         ),
         // Zero 11, i0 10, i1 9, i2 2; `id` as before.
         (
-            "java.lang.Object",
-            "public static void m() { int i0, i1, i2; i0 = staticinvoke <S: int src()>(); i1 = staticinvoke <A: int id(int)>(i0); nop; nop; nop; nop; nop; nop; i2 = staticinvoke <A: int id(int)>(i1); staticinvoke <S: void snk(int)>(i2); return; }
-             public static int id(int) { int x; x := @parameter0: int; return x; }",
+            "public class A extends java.lang.Object { public static void m() { int i0, i1, i2; i0 = staticinvoke <S: int src()>(); i1 = staticinvoke <A: int id(int)>(i0); nop; nop; nop; nop; nop; nop; i2 = staticinvoke <A: int id(int)>(i1); staticinvoke <S: void snk(int)>(i2); return; } public static int id(int) { int x; x := @parameter0: int; return x; } }",
             "leak <A: void m()>#9 from <A: void m()>#0 at i2\nedges 37\ncontexts 3\n",
         ),
         // Zero 3, i0 2; `n` from zero 3, and from its parameter 3 and 2.
         (
-            "java.lang.Object",
-            "public static void m() { int i0; i0 = staticinvoke <S: int src()>(); staticinvoke <A: void n(int)>(i0); return; }
-             public static void n(int) { int x; x := @parameter0: int; staticinvoke <S: void snk(int)>(x); return; }",
+            "public class A extends java.lang.Object { public static void m() { int i0; i0 = staticinvoke <S: int src()>(); staticinvoke <A: void n(int)>(i0); return; } public static void n(int) { int x; x := @parameter0: int; staticinvoke <S: void snk(int)>(x); return; } }",
             "leak <A: void n(int)>#1 from <A: void m()>#0 at x\nedges 13\ncontexts 3\n",
         ),
         // A sink of the class that is extended: Zero 3, i0 2, and `snk` is not entered.
         (
-            "S",
-            "public static void m() { int i0; i0 = staticinvoke <S: int src()>(); staticinvoke <A: void snk(int)>(i0); return; }
-             public static void snk(int) { int x; x := @parameter0: int; return; }",
+            "public class A extends S { public static void m() { int i0; i0 = staticinvoke <S: int src()>(); staticinvoke <A: void snk(int)>(i0); return; } public static void snk(int) { int x; x := @parameter0: int; return; } }",
             "leak <A: void m()>#1 from <A: void m()>#0 at i0\nedges 5\ncontexts 1\n",
         ),
-    ];
-    for (supertype, methods, out) in cases {
-        let class = class_with(rt.alloc(), supertype, methods)?;
-        let code = if out.starts_with("leak") { 1 } else { 0 };
-        expect_class(&rt, rt.alloc(), class.as_str(), out, "", code)?;
-    }
-    Ok(())
-}
-
-// What a class file gives, entered at `m`.
-fn expect_class(
-    rt: &impl Abort,
-    alloc: Global,
-    class: &str,
-    out: &str,
-    err: &str,
-    code: u8,
-) -> Result<(), Fail> {
-    let words = [
-        "serial",
-        "--entry",
-        "<A: void m()>",
-        "--lists",
-        "L",
-        "A.jimple",
-    ];
-    let shelf = shelf_of(alloc, class, LIST.as_bytes(), &[])?;
-    let served = serve(alloc, &words, shelf, 4096, 4096)?;
-    expect(rt, &served, out, err, code);
-    Ok(())
-}
-
-#[test]
-fn jumps_and_handlers(rt: HostRuntime) -> Result<(), Fail> {
-    // The methods, and the output. The numbers of edges are counted by hand.
-    let cases = [
         // Mutual recursion: in `m` 9, in `f` 5 and 10, in `g` 3 and 6.
         (
-            "public static void m() { int i0, i1; i0 = staticinvoke <S: int src()>(); i1 = staticinvoke <A: int f(int)>(i0); staticinvoke <S: void snk(int)>(i1); return; }
-             public static int f(int) { int x, y; x := @parameter0: int; if x == 0 goto end; y = staticinvoke <A: int g(int)>(x); return y; end: return x; }
-             public static int g(int) { int x, y; x := @parameter0: int; y = staticinvoke <A: int f(int)>(x); return y; }",
+            "public class A extends java.lang.Object { public static void m() { int i0, i1; i0 = staticinvoke <S: int src()>(); i1 = staticinvoke <A: int f(int)>(i0); staticinvoke <S: void snk(int)>(i1); return; } public static int f(int) { int x, y; x := @parameter0: int; if x == 0 goto end; y = staticinvoke <A: int g(int)>(x); return y; end: return x; } public static int g(int) { int x, y; x := @parameter0: int; y = staticinvoke <A: int f(int)>(x); return y; } }",
             "leak <A: void m()>#2 from <A: void m()>#0 at i1\nedges 33\ncontexts 5\n",
         ),
         // A handler: Zero 6, i0 5, i1 4.
         (
-            "public static void m() { int i0, i1; E r0; i0 = staticinvoke <S: int src()>(); a: i1 = i0; b: return; c: r0 := @caughtexception; staticinvoke <S: void snk(int)>(i0); return; catch E from a to b with c; }",
+            "public class A extends java.lang.Object { public static void m() { int i0, i1; E r0; i0 = staticinvoke <S: int src()>(); a: i1 = i0; b: return; c: r0 := @caughtexception; staticinvoke <S: void snk(int)>(i0); return; catch E from a to b with c; } }",
             "leak <A: void m()>#4 from <A: void m()>#0 at i0\nedges 15\ncontexts 1\n",
         ),
         // A switch past a kill: Zero 5, i0 4.
         (
-            "public static void m() { int i0; i0 = staticinvoke <S: int src()>(); lookupswitch(i0) { case 1: goto one; default: goto all; } one: i0 = 0; all: staticinvoke <S: void snk(int)>(i0); return; }",
+            "public class A extends java.lang.Object { public static void m() { int i0; i0 = staticinvoke <S: int src()>(); lookupswitch(i0) { case 1: goto one; default: goto all; } one: i0 = 0; all: staticinvoke <S: void snk(int)>(i0); return; } }",
             "leak <A: void m()>#3 from <A: void m()>#0 at i0\nedges 9\ncontexts 1\n",
         ),
     ];
-    for (methods, out) in cases {
-        let class = class_with(rt.alloc(), "java.lang.Object", methods)?;
-        expect_class(&rt, rt.alloc(), class.as_str(), out, "", 1)?;
+    for (class, out) in rows {
+        let code = if out.starts_with("leak") { 1 } else { 0 };
+        let row = Row {
+            class,
+            out,
+            code,
+            ..PLAIN
+        };
+        expect(&rt, rt.alloc(), &row)?;
     }
     Ok(())
 }
 
 #[test]
-fn faults_of_class_text(rt: HostRuntime) -> Result<(), Fail> {
-    // The class file, and the line on the error sink.
-    let cases = [
+fn refusals(rt: HostRuntime) -> Result<(), Fail> {
+    // The class file, the list, the entry, and the line on the error sink.
+    let rows = [
+        (
+            "public class A extends java.lang.Object { public static void m() { <A: int f> = 0; return; } }",
+            LIST,
+            "<A: void m()>",
+            "clean: A.jimple: form not built yet\n",
+        ),
+        (
+            "public class A extends java.lang.Object { public static void m() { <A: int f> = 0; return; } }",
+            BAD_LIST,
+            "<A: void n()>",
+            "clean: A.jimple: form not built yet\n",
+        ),
+        (
+            "public class A extends java.lang.Object { public static void m() { return; } }",
+            BAD_LIST,
+            "<A: void n()>",
+            "clean: L: form not built yet\n",
+        ),
+        (
+            "public class A extends java.lang.Object { public static void m() { return; } }",
+            LIST,
+            "<A: void n()>",
+            "clean: entry method not found\n",
+        ),
         (
             "class A { static void m() { staticinvoke <S: void s(",
+            LIST,
+            "<A: void m()>",
             "clean: A.jimple: syntax at 52\n",
         ),
-        ("class A ~", "clean: A.jimple: byte not allowed at 8\n"),
-        ("class A { /* ", "clean: A.jimple: text not ended at 10\n"),
+        (
+            "class A ~",
+            LIST,
+            "<A: void m()>",
+            "clean: A.jimple: byte not allowed at 8\n",
+        ),
+        (
+            "class A { /* ",
+            LIST,
+            "<A: void m()>",
+            "clean: A.jimple: text not ended at 10\n",
+        ),
         (
             "class A { int f; int f; }",
+            LIST,
+            "<A: void m()>",
             "clean: A.jimple: name given twice at 21\n",
         ),
         (
             "class A { static void m() { goto x; } }",
+            LIST,
+            "<A: void m()>",
             "clean: A.jimple: unknown label at 33\n",
         ),
         (
             "class A { static void m() { x = 0; } }",
+            LIST,
+            "<A: void m()>",
             "clean: A.jimple: unknown local at 28\n",
         ),
         (
             "class A { static void m() { dynamicinvoke \"f\" <int ()>(); } }",
+            LIST,
+            "<A: void m()>",
             "clean: A.jimple: dynamicinvoke not supported at 28\n",
         ),
         (
             "class A { void m() { throw methodtype: 1; } }",
+            LIST,
+            "<A: void m()>",
             "clean: A.jimple: methodhandle not supported at 27\n",
         ),
         (
             "class A { void m() { int i; i := @parameter255: int; } }",
+            LIST,
+            "<A: void m()>",
             "clean: A.jimple: too many names at 34\n",
         ),
         (
             "class A { } class A { }",
+            LIST,
+            "<A: void m()>",
             "clean: A.jimple: form not built yet\n",
         ),
-        ("class A { void m(); }", "clean: entry method not found\n"),
+        (
+            "class A { void m(); }",
+            LIST,
+            "<A: void m()>",
+            "clean: entry method not found\n",
+        ),
     ];
-    for (class, err) in cases {
-        expect_class(&rt, rt.alloc(), class, "", err, 3)?;
+    for (class, list, entry, err) in rows {
+        let words = ["serial", "--entry", entry, "--lists", "L", "A.jimple"];
+        let row = Row {
+            words: &words,
+            class,
+            list,
+            err,
+            code: 3,
+            ..PLAIN
+        };
+        expect(&rt, rt.alloc(), &row)?;
+    }
+    Ok(())
+}
+
+#[test]
+fn graphs(rt: HostRuntime) -> Result<(), Fail> {
+    // The words, the class file, the others, and the graph.
+    let rows: [(&[&str], &str, &[(&str, &str)], &str); 5] = [
+        (
+            GRAPH_OF_FOUR,
+            "public class A extends java.lang.Object { public static void m() { B b; int i0; b = new D; i0 = virtualinvoke b.<B: int v()>(); return; } }",
+            &[
+                (
+                    "B.jimple",
+                    "public abstract class B extends java.lang.Object { public int v() { return 0; } }",
+                ),
+                ("C.jimple", "public class C extends B { }"),
+                (
+                    "D.jimple",
+                    "public class D extends B { public int v() { return 0; } }",
+                ),
+            ],
+            "call <A: void m()>#1 to <B: int v()>\ncall <A: void m()>#1 to <D: int v()>\nmethods 3\n",
+        ),
+        // A source of the class that is extended, in another file.
+        (
+            GRAPH_OF_TWO,
+            "public class A extends java.lang.Object { public static void m() { int i0; i0 = staticinvoke <C: int src()>(); staticinvoke <S: void snk(int)>(i0); return; } }",
+            &[("B.jimple", "class C extends S { }")],
+            "methods 1\n",
+        ),
+        (
+            GRAPH_OF_TWO,
+            "public class A extends java.lang.Object { public static void m() { int i0; i0 = staticinvoke <C: int src()>(); staticinvoke <S: void snk(int)>(i0); return; } }",
+            &[(
+                "B.jimple",
+                "class C extends S { static int src() { return 0; } }",
+            )],
+            "methods 1\n",
+        ),
+        (
+            GRAPH_OF_TWO,
+            "public class A extends java.lang.Object { public static void m() { int i0; i0 = staticinvoke <C: int src()>(); staticinvoke <S: void snk(int)>(i0); return; } }",
+            &[("B.jimple", "class C { static int src() { return 0; } }")],
+            "call <A: void m()>#0 to <C: int src()>\nmethods 2\n",
+        ),
+        // A method that nothing calls isn't reached, and one that calls itself is reached once.
+        (
+            GRAPH,
+            "class A { void n() { return; } static void m() { staticinvoke <A: void m()>(); return; } }",
+            &[],
+            "call <A: void m()>#0 to <A: void m()>\nmethods 1\n",
+        ),
+    ];
+    for (words, class, others, out) in rows {
+        let row = Row {
+            words,
+            class,
+            others,
+            out,
+            ..PLAIN
+        };
+        expect(&rt, rt.alloc(), &row)?;
+    }
+    Ok(())
+}
+
+#[test]
+fn refused_graphs(rt: HostRuntime) -> Result<(), Fail> {
+    // The words, the class file, the list, the file `B.jimple`, the line on the error sink and the code.
+    let rows = [
+        (GRAPH, "", LIST, "", "clean: entry method not found\n", 3),
+        (
+            GRAPH,
+            "class A { static void m(); }",
+            LIST,
+            "",
+            "clean: entry method not found\n",
+            3,
+        ),
+        (
+            GRAPH,
+            "class A { } class A { }",
+            LIST,
+            "",
+            "clean: class A given twice\n",
+            3,
+        ),
+        (
+            GRAPH_OF_TWO,
+            "class A { static void m() { return; } }",
+            LIST,
+            "class A { }",
+            "clean: class A given twice\n",
+            3,
+        ),
+        (
+            GRAPH_TWICE,
+            LEAK,
+            LIST,
+            "",
+            "clean: class A given twice\n",
+            3,
+        ),
+        (
+            GRAPH,
+            "class A extends A { }",
+            LIST,
+            "",
+            "clean: class A is its own supertype\n",
+            3,
+        ),
+        (
+            GRAPH_OF_TWO,
+            "class A extends B { }",
+            LIST,
+            "class B extends A { }",
+            "clean: class A is its own supertype\n",
+            3,
+        ),
+        (
+            GRAPH_OF_TWO,
+            "class A extends A { }",
+            BAD_LIST,
+            "class B ~",
+            "clean: B.jimple: byte not allowed at 8\n",
+            3,
+        ),
+        (
+            GRAPH,
+            "class A extends A { }",
+            BAD_LIST,
+            "",
+            "clean: L: form not built yet\n",
+            3,
+        ),
+        // A file that isn't there.
+        (
+            GRAPH_OF_FOUR,
+            "class A ~",
+            LIST,
+            "",
+            "clean: C.jimple: read fault\n",
+            4,
+        ),
+    ];
+    for (words, class, list, other, err, code) in rows {
+        let others = [("B.jimple", other)];
+        let row = Row {
+            words,
+            class,
+            list,
+            others: &others,
+            err,
+            code,
+            ..PLAIN
+        };
+        expect(&rt, rt.alloc(), &row)?;
     }
     Ok(())
 }
 
 #[test]
 fn words_of_no_form(rt: HostRuntime) -> Result<(), Fail> {
-    let usage =
-        "clean: usage: clean check, main, graph, serial, replay, solve or big, with its options and files\n";
-    let entry = "<A: void m()>";
-    let shapes: [&[&str]; 5] = [
+    let shapes: [&[&str]; 8] = [
         &["serial"],
-        &["solve", "--entry", entry, "--lists", "L", "A.jimple"],
-        &["serial", "--entry", entry, "--lists", "L", "-A.jimple"],
-        &["serial", "--entry", entry, "--lists", "", "A.jimple"],
         &[
-            "serial", "--entry", entry, "--lists", "L", "A.jimple", "B.jimple",
+            "serial",
+            "--entry",
+            "<A: void m( )>",
+            "--lists",
+            "L",
+            "A.jimple",
+        ],
+        &[
+            "solve",
+            "--entry",
+            "<A: void m()>",
+            "--lists",
+            "L",
+            "A.jimple",
+        ],
+        &[
+            "serial",
+            "--entry",
+            "<A: void m()>",
+            "--lists",
+            "L",
+            "-A.jimple",
+        ],
+        &[
+            "serial",
+            "--entry",
+            "<A: void m()>",
+            "--lists",
+            "",
+            "A.jimple",
+        ],
+        &[
+            "serial",
+            "--entry",
+            "<A: void m()>",
+            "--lists",
+            "L",
+            "A.jimple",
+            "B.jimple",
+        ],
+        &["graph", "--entry", "<A: void m()>", "--lists", "L"],
+        &[
+            "graph",
+            "--lists",
+            "L",
+            "--entry",
+            "<A: void m()>",
+            "A.jimple",
         ],
     ];
     for words in shapes {
-        let shelf = shelf_of(rt.alloc(), "", &[], &[])?;
-        let served = serve(rt.alloc(), words, shelf, 4096, 4096)?;
-        expect(&rt, &served, "", usage, 2);
+        let row = Row {
+            words,
+            err: "clean: usage: clean check, main, graph, serial, replay, solve or big, with its options and files\n",
+            code: 2,
+            ..PLAIN
+        };
+        expect(&rt, rt.alloc(), &row)?;
     }
     Ok(())
 }
 
 #[test]
 fn failing_devices(rt: HostRuntime) -> Result<(), Fail> {
-    let body =
-        "int i0; i0 = staticinvoke <S: int src()>(); staticinvoke <S: void snk(int)>(i0); return;";
-    let class = class_of(rt.alloc(), body)?;
-    let words = [
-        "serial",
-        "--entry",
-        "<A: void m()>",
-        "--lists",
-        "L",
-        "A.jimple",
+    // Which call of the shelf fails, the rooms, the output, the line and the code. The third call is the first read of the
+    // list. A failure of the error sink is passed over.
+    let rows = [
+        (3, 4096, 4096, "", "clean: L: read fault\n", 4),
+        (
+            99,
+            10,
+            4096,
+            "leak <A: v",
+            "clean: write fault after 10 bytes\n",
+            5,
+        ),
+        (1, 4096, 7, "", "clean: ", 4),
     ];
-
-    // The third call is the first read of the list.
-    let shelf = shelf_of(rt.alloc(), class.as_str(), LIST.as_bytes(), &[3])?;
-    let served = serve(rt.alloc(), &words, shelf, 4096, 4096)?;
-    expect(&rt, &served, "", "clean: L: read fault\n", 4);
-
-    let shelf = shelf_of(rt.alloc(), class.as_str(), LIST.as_bytes(), &[])?;
-    let served = serve(rt.alloc(), &words, shelf, 10, 4096)?;
-    expect(
-        &rt,
-        &served,
-        "leak <A: v",
-        "clean: write fault after 10 bytes\n",
-        5,
-    );
-
-    // A failure of the error sink is passed over.
-    let shelf = shelf_of(rt.alloc(), class.as_str(), LIST.as_bytes(), &[1])?;
-    let served = serve(rt.alloc(), &words, shelf, 4096, 7)?;
-    expect(&rt, &served, "", "clean: ", 4);
-    Ok(())
-}
-
-#[test]
-fn a_list_past_its_room(rt: HostRuntime) -> Result<(), Fail> {
-    let class = class_of(rt.alloc(), "return;")?;
-    let list = long_list(rt.alloc(), 16_777_217)?;
-    let shelf = shelf_of(rt.alloc(), class.as_str(), list.as_slice(), &[])?;
-    let words = [
-        "serial",
-        "--entry",
-        "<A: void m()>",
-        "--lists",
-        "L",
-        "A.jimple",
-    ];
-    let served = serve(rt.alloc(), &words, shelf, 4096, 4096)?;
-    expect(
-        &rt,
-        &served,
-        "",
-        "clean: L: longer than 16777216 bytes\n",
-        3,
-    );
+    for (call, room, err_room, out, err, code) in rows {
+        let row = Row {
+            fail: &[call],
+            room,
+            err_room,
+            out,
+            err,
+            code,
+            ..PLAIN
+        };
+        expect(&rt, rt.alloc(), &row)?;
+    }
     Ok(())
 }
 
@@ -441,12 +582,14 @@ fn long_list(alloc: Global, n: usize) -> Result<Vec<u8>, AllocError> {
 }
 
 #[test]
-fn a_class_for_the_solver(rt: HostRuntime) -> Result<(), Fail> {
-    let text = b"public class A extends B { public static void m() { return; } }";
-    let classes = read_classes(rt.alloc(), text, 0)?;
-    for class in classes.as_slice() {
-        let solved = is_solved(rt.alloc(), class)?;
-        assert!(rt; solved);
-    }
+fn a_list_past_its_room(rt: HostRuntime) -> Result<(), Fail> {
+    let list = long_list(rt.alloc(), 16_777_217)?;
+    let row = Row {
+        list: list.as_slice(),
+        err: "clean: L: longer than 16777216 bytes\n",
+        code: 3,
+        ..PLAIN
+    };
+    expect(&rt, rt.alloc(), &row)?;
     Ok(())
 }

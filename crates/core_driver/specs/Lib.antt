@@ -1,3 +1,2 @@
 pub mod More
 pub mod Driven
-pub mod Recursion

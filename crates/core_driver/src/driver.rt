@@ -15,7 +15,6 @@ use solver_core::{Answer, CommitStop, State, Taken};
 use std::alloc::Global;
 
 /// What one step did.
-#[derive(Clone, Copy, Debug, PartialEq, Eq)]
 pub enum Stepped {
     /// It committed an edge.
     Edge,
@@ -23,14 +22,6 @@ pub enum Stepped {
     Join,
     /// It found nothing to do.
     Over,
-}
-
-// Every state is sound and tidy, so no more edges are committed than the limit allows.
-fn keeps_right<P: Problem>(state: &State<P>)
-    ensures right { IsRight (P.machine state.now.problem) (P.reaches state.now.problem) state.now.view }
-    ensures within { state.now.view.commits ≤ state.now.view.max_edges }
-{
-    state.found();
 }
 
 // The step that an item makes.
@@ -60,19 +51,18 @@ fn carry_out<P: Problem>(
     state: &mut State<P>,
     item: Item<P::Fact>,
 ) -> Result<Stepped, CommitStop>
-    requires { At state.old.view.flights 0 (Some item) }
+    requires flies { At state.old.view.flights 0 (Some item) }
+    requires sound { IsRight (P.machine state.old.problem) (P.reaches state.old.problem) state.old.view }
     ensures problem { state.new.problem ≡ state.old.problem }
     ensures event { OnOk result (Commits (P.machine state.old.problem) 0 state.old.view state.new.view) }
     ensures within { OnOk result (state.new.view.commits ≤ state.new.view.max_edges) }
     ensures kind { IfOk result (λ s. s ≡ kind_of item) }
     ensures refused { IfErr result (λ e. IsRefused (P.machine state.old.problem) state.old.view.max_edges e) }
 {
-    keeps_right(state);
     let Ok(outcome) = work(alloc, state.problem(), item) else {
         return Err(CommitStop::OutOfMemory);
     };
     state.commit(0, outcome)?;
-    keeps_right(state);
     Ok(kind(item))
 }
 
@@ -149,7 +139,6 @@ pub fn finish<P: Problem>(alloc: Global, state: State<P>) -> Result<Answer<P>, C
     let mut state = state;
     give_all_back(&mut state);
     work_off(alloc, &mut state)?;
-    keeps_right(&state);
     match state.into_answer() {
         Ok(answer) => Ok(answer),
         Err(_) => Err(CommitStop::OutOfMemory),

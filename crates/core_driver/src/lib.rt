@@ -5,8 +5,3 @@
 mod driver;
 
 pub use driver::finish;
-
-#[cfg(test)]
-mod recursion;
-#[cfg(test)]
-mod tests;

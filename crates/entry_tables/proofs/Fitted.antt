@@ -6,14 +6,14 @@ use Rattle.ifds_model.specs.declared.node.Context.{Context}
 use Rattle.entry_tables.specs.Lists.{list_at}
 use Rattle.entry_tables.specs.Rows.{Rows}
 use Rattle.entry_tables.specs.Tables.{IsFit}
-use Rattle.entry_tables.specs.declared.tables.Caller.{Caller}
+use Rattle.entry_tables.specs.declared.tables.CallSite.{CallSite}
 use Rattle.entry_tables.proofs.Listed.{distinct_push}
 
 -- the next list is given out, and it is empty
 pub list_given : {X : Type 0} (lists : List (List X)) (n m : ℕ) → m ≡ n + 1 → n < length lists → list_at lists n ≡ [] → take m lists ≡ take n lists ++ [] ∷ []
 list_given {X} lists n m next below empty = ap (λ (k : ℕ). take k lists) next ∙ take_more lists n [] below ∙ ap (λ (xs : List X). take n lists ++ xs ∷ []) empty
 
-module _ {F : Type 0} (keys more : List (Context F)) (spare left : ℕ) (callers : Rows Caller) (exits : Rows F) (first : ℕ) (fit : IsFit keys spare callers exits first)
+module _ {F : Type 0} (keys more : List (Context F)) (spare left : ℕ) (callers : Rows CallSite) (exits : Rows F) (first : ℕ) (fit : IsFit keys spare callers exits first)
     (x : Context F) (is : more ≡ keys ++ x ∷ []) (room : 0 < length callers.lists - length keys) where
   one_more : length more ≡ length keys + 1
   one_more = ap length is ∙ length_push keys x

@@ -5,14 +5,14 @@ use Rattle.ifds_model.specs.declared.node.Context.{Context}
 use Rattle.ifds_model.specs.State.{IsDistinct}
 use Rattle.entry_tables.specs.Lists.{list_at, KeepsRoom}
 use Rattle.entry_tables.specs.Rows.{Rows, IsEven}
-use Rattle.entry_tables.specs.declared.tables.Caller.{Caller}
+use Rattle.entry_tables.specs.declared.tables.CallSite.{CallSite}
 
 -- The tables: a context's number is its place in the list, and stands for it in every other list.
 pub record Tables (F : Type 0) : Type 0 where
   -- the known contexts, each once, in the order of opening
   pub contexts : List (Context F)
   -- for each context its callers, and its exits, each once, in the order of adding
-  pub callers : List (List Caller)
+  pub callers : List (List CallSite)
   pub exits : List (List F)
   -- how many further contexts there is room for
   pub spare_contexts : ℕ
@@ -22,12 +22,12 @@ pub record Tables (F : Type 0) : Type 0 where
   pub spare_callers : List ℕ
   pub spare_exits : List ℕ
 
-abbrev pub caller_of : ℕ → StmtId → Caller
-caller_of n at = record { caller = n; call = at }
+abbrev pub call_site : ℕ → StmtId → CallSite
+call_site n at = record { caller = n; call = at }
 
 module _ {F : Type 0} where
   -- the callers, and the exits, of the context with this number
-  abbrev pub callers_of : Tables F → ℕ → List Caller
+  abbrev pub callers_of : Tables F → ℕ → List CallSite
   callers_of t n = list_at t.callers n
 
   abbrev pub exits_of : Tables F → ℕ → List F
@@ -53,7 +53,7 @@ module _ {F : Type 0} where
     pub exits : KeepsRoom old.spare_exits new.spare_exits
 
   -- the tables of these parts: lists that are past the last context wait for further ones
-  abbrev pub tables_of : List (Context F) → Rows Caller → Rows F → ℕ → Tables F
+  abbrev pub tables_of : List (Context F) → Rows CallSite → Rows F → ℕ → Tables F
   tables_of keys callers exits first = record {
     contexts = keys;
     callers = take (length keys) callers.lists;
@@ -65,7 +65,7 @@ module _ {F : Type 0} where
   }
 
   -- the parts fit each other, and what waits for further contexts is empty
-  pub record IsFit (keys : List (Context F)) (spare : ℕ) (callers : Rows Caller) (exits : Rows F) (first : ℕ) : Type 0 where
+  pub record IsFit (keys : List (Context F)) (spare : ℕ) (callers : Rows CallSite) (exits : Rows F) (first : ℕ) : Type 0 where
     pub distinct : IsDistinct keys
     pub known : length keys ≤ length callers.lists
     pub waiting : length callers.lists ≤ length keys + spare

@@ -7,7 +7,5 @@ mod kept;
 mod places;
 mod rows;
 pub mod tables;
-#[cfg(test)]
-mod tests;
 
-pub use tables::{Caller, EntryTables};
+pub use tables::{CallSite, EntryTables};

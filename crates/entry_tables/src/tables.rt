@@ -1,8 +1,10 @@
 // The tables of contexts: numbers, callers and exits. Room is made before, so that opening a context and adding an
 // entry take no memory.
-ghost use Rattle.std.specs.Prelude.{◌≡◌, ◌≤◌, ◌<◌, ◌+◌, ◌++◌, ◌∷◌, [], IsTrue, false, length, slice_index, slice_set, Contains, IfSome, IfNone, OnOk};
+ghost use Rattle.std.specs.Prelude.{◌≡◌, ◌≤◌, ◌<◌, ◌+◌, ◌++◌, ◌∷◌, [], ℕ, IsTrue, false, length, slice_index, slice_set, Contains, IfSome, IfNone, IfOk, OnOk};
 ghost use Rattle.indexmap.specs.IndexSet.{spare};
 ghost use Rattle.ifds_model.specs.State.{At};
+ghost use Rattle.entry_tables.specs.Lists.{KeepsRoom};
+ghost use Rattle.entry_tables.specs.Rows.{IsEven};
 
 use crate::places::{place_new, place_of};
 use crate::rows::EntryRows;
@@ -14,12 +16,12 @@ use std::marker::Model;
 
 /// Who waits for a context's exits: the number of the context that calls it, and the call.
 #[derive(Clone, Copy, Debug, PartialEq, Eq, Hash)]
-pub struct Caller {
+pub struct CallSite {
     pub caller: u64,
     pub call: StmtId,
 }
 
-impl Plain for Caller {
+impl Plain for CallSite {
     ghost use Rattle.std.proofs.Common.{rules};
 
     ghost exact = { λ x y h. Prim.search rules };
@@ -29,7 +31,7 @@ impl Plain for Caller {
 #[derive(Drop)]
 pub struct EntryTables<F: Plain> {
     contexts: IndexSet<Context<F>>,
-    callers: EntryRows<Caller>,
+    callers: EntryRows<CallSite>,
     exits: EntryRows<F>,
     first: usize,
 }
@@ -48,7 +50,7 @@ impl<F: Plain> Model for EntryTables<F> {
 impl<F: Plain> EntryTables<F> {
     ghost use Rattle.ifds_model.specs.State.{IsDistinct};
     ghost use Rattle.entry_tables.specs.Lists.{KeepsRoom, UsesRoomAt};
-    ghost use Rattle.entry_tables.specs.Tables.{caller_of, callers_of, exits_of, IsWhole, IsUnchanged, KeepsAllRoom};
+    ghost use Rattle.entry_tables.specs.Tables.{call_site, callers_of, exits_of, IsWhole, IsUnchanged, KeepsAllRoom};
 
     /// Tables that know no context.
     pub fn new(alloc: Global) -> Self
@@ -89,12 +91,7 @@ impl<F: Plain> EntryTables<F> {
             return Err(AllocError);
         };
         self.contexts.reserve(contexts as usize)?;
-        if self.callers.count() == known {
-            self.first = callers as usize;
-        } else if self.first < callers as usize {
-            self.callers.raise(known, callers as usize)?;
-            self.first = callers as usize;
-        }
+        self.first = raise_first(&mut self.callers, known, self.first, callers as usize)?;
         self.exits.prepare(count, 0)?;
         self.callers.prepare(count, self.first)
     }
@@ -138,9 +135,9 @@ impl<F: Plain> EntryTables<F> {
         requires callee { callee < length self.old.contexts }
         requires caller { caller < length self.old.contexts }
         requires room { 0 < slice_index self.old.spare_callers callee }
-        ensures is_new { IsTrue result → ¬ Contains (callers_of self.old callee) (caller_of caller call) }
-        ensures added { IsTrue result → self.new.callers ≡ slice_set self.old.callers callee (callers_of self.old callee ++ caller_of caller call ∷ []) }
-        ensures was { result ≡ false → Contains (callers_of self.old callee) (caller_of caller call) }
+        ensures is_new { IsTrue result → ¬ Contains (callers_of self.old callee) (call_site caller call) }
+        ensures added { IsTrue result → self.new.callers ≡ slice_set self.old.callers callee (callers_of self.old callee ++ call_site caller call ∷ []) }
+        ensures was { result ≡ false → Contains (callers_of self.old callee) (call_site caller call) }
         ensures same { result ≡ false → self.new.callers ≡ self.old.callers }
         ensures contexts { self.new.contexts ≡ self.old.contexts }
         ensures exits { self.new.exits ≡ self.old.exits }
@@ -149,7 +146,7 @@ impl<F: Plain> EntryTables<F> {
         ensures spare { self.new.spare_contexts ≡ self.old.spare_contexts }
         ensures first { self.new.first_callers ≡ self.old.first_callers }
     {
-        self.callers.add(callee as usize, Caller { caller, call })
+        self.callers.add(callee as usize, CallSite { caller, call })
     }
 
     /// Adds an exit of a context where it is not there yet, and tells whether it is new.
@@ -196,7 +193,7 @@ impl<F: Plain> EntryTables<F> {
     }
 
     /// A caller of a context, by the order of adding.
-    pub fn caller_at(&self, context: u64, at: u64) -> Caller
+    pub fn caller_at(&self, context: u64, at: u64) -> CallSite
         requires context { context < length self.now.contexts }
         requires at { at < length (callers_of self.now context) }
         ensures { At (callers_of self.now context) at result }
@@ -221,4 +218,30 @@ impl<F: Plain> EntryTables<F> {
     {
         self.exits.get(context as usize, at as usize)
     }
+}
+
+// Makes room for so many callers of each context that waits, and tells how much room each of them has. Where none waits
+// there is no room to keep.
+fn raise_first(
+    callers: &mut EntryRows<CallSite>,
+    known: usize,
+    first: usize,
+    more: usize,
+) -> Result<usize, AllocError>
+    requires known { known ≤ length callers.old.lists }
+    requires ready { (k : ℕ) → known ≤ k → k < length callers.old.lists → first ≤ slice_index callers.old.rooms k }
+    ensures same { callers.new.lists ≡ callers.old.lists }
+    ensures even { IsEven callers.new }
+    ensures kept { KeepsRoom callers.old.rooms callers.new.rooms }
+    ensures more { IfOk result (λ n. more ≤ n) }
+    ensures least { IfOk result (λ n. known < length callers.old.lists → first ≤ n) }
+    ensures raised { IfOk result (λ n. (k : ℕ) → known ≤ k → k < length callers.new.lists → n ≤ slice_index callers.new.rooms k) }
+{
+    if callers.count() == known {
+        return Ok(more);
+    }
+    if first < more {
+        callers.raise(known, more)?;
+    }
+    Ok(first.max(more))
 }

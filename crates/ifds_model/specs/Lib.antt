@@ -9,4 +9,3 @@ pub mod Free
 pub mod Laws
 pub mod Events
 pub mod Outcome
-pub mod Example

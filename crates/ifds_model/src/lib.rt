@@ -6,11 +6,10 @@ pub mod event;
 pub mod node;
 pub mod outcome;
 pub mod problem;
+pub mod push;
 
 pub use event::Event;
 pub use node::{Context, Dir, Frame, Item, Leak, Move, Node};
 pub use outcome::{Outcome, work};
 pub use problem::Problem;
-
-#[cfg(test)]
-mod tests;
+pub use push::{push_call, push_exit, push_go, push_mark};

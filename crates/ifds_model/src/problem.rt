@@ -2,7 +2,8 @@
 ghost use Rattle.std.specs.Prelude.{◌≡◌, ◌<◌, ◌↔◌, ℕ, OnOk, IsTrue};
 ghost use Rattle.clean_base.specs.declared.ids.MethodId.{MethodId};
 ghost use Rattle.clean_base.specs.declared.ids.StmtId.{StmtId};
-ghost use Rattle.ifds_model.specs.Machine.{Machine, AppendsSet};
+ghost use Rattle.clean_base.specs.Lists.{AppendsSet};
+ghost use Rattle.ifds_model.specs.Machine.{Machine};
 ghost use Rattle.ifds_model.specs.declared.node.Context.{Context};
 ghost use Rattle.ifds_model.specs.declared.node.Node.{Node};
 ghost use Rattle.ifds_model.specs.declared.node.Move.{Move};

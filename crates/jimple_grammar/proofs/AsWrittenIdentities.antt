@@ -1,6 +1,6 @@
 -- Identity statements have the spellings and the beginnings of their productions: what stands behind `:=` and `@` in a row.
 use Rattle.std.proofs.Common.{List, [], ◌++◌, sym, ◌∙◌, ap, subst, refl, inl, inr, append-nil}
-use Rattle.jimple_grammar.specs.declared.kind.Kind.TheVariants as kinds
+use Rattle.jimple_words.specs.declared.kind.Kind.TheVariants as kinds
 use Rattle.jimple_grammar.specs.declared.lexeme.Lexeme.{Lexeme}
 use Rattle.jimple_grammar.specs.declared.raw.RawGiven.{RawGiven}
 use Rattle.jimple_grammar.specs.declared.raw.RawGiven.TheVariants as givens

@@ -2,12 +2,12 @@
 use Rattle.std.proofs.Common.{◌≡◌, ◌⊎◌, ℕ, zero, suc, Bool, true, false, [], ◌∷◌, ◌++◌, length, refl, inl, inr}
 use mathlib.Core.Bool.{◌||◌}
 use Rattle.std.specs.Prelude.{◌==◌}
-use Rattle.jimple_grammar.specs.declared.kind.Kind.{Kind}
-use Rattle.jimple_grammar.specs.declared.kind.Kind.TheVariants as kinds
+use Rattle.jimple_words.specs.declared.kind.Kind.{Kind}
+use Rattle.jimple_words.specs.declared.kind.Kind.TheVariants as kinds
 use Rattle.jimple_grammar.specs.declared.raw.RawCallee.{RawCallee}
 use Rattle.jimple_grammar.specs.declared.raw.RawImm.TheVariants as imms
-use Rattle.jimple_grammar.specs.Kind.{Kinds, has, number}
-use Rattle.jimple_grammar.specs.Words.{plain_names}
+use Rattle.jimple_words.specs.Kind.{Kinds, has, number}
+use Rattle.jimple_words.specs.Sets.{plain_names}
 use Rattle.jimple_grammar.specs.Grammar.{Grammar, nothing, token, both, either, times, ◌<*>◌}
 use Rattle.jimple_grammar.specs.Forms.{sign, name, handle, constant, imm, next_imm, args, callee, call, element}
 use Rattle.jimple_grammar.specs.AsWritten.{Same, imm_as_written, next_imm_as_written, args_as_written, arguments_as_written, call_as_written, element_as_written}

@@ -1,6 +1,6 @@
 -- Statements, and the items of bodies, have the spellings and the beginnings of their productions.
 use Rattle.std.proofs.Common.{refl}
-use Rattle.jimple_grammar.specs.declared.kind.Kind.TheVariants as kinds
+use Rattle.jimple_words.specs.declared.kind.Kind.TheVariants as kinds
 use Rattle.jimple_grammar.specs.declared.raw.RawStmt.{RawStmt}
 use Rattle.jimple_grammar.specs.Grammar.{Grammar, either, given, ◌<*◌}
 use Rattle.jimple_grammar.specs.Forms.{sign, name, stored, assign, store_field, store_element, local_stmt, store_static, call_stmt, if_stmt, switch_stmt, returned, return_stmt, throw_stmt, enter_stmt, exit_stmt, word_stmt, stmt, behind_name, item, later_items, code}

@@ -6,7 +6,7 @@ use Rattle.jimple_grammar.specs.declared.raw.RawCode.{RawCode}
 use Rattle.jimple_grammar.specs.declared.raw.RawDecl.{RawDecl}
 use Rattle.jimple_grammar.specs.declared.raw.RawItem.{RawItem}
 use Rattle.jimple_grammar.specs.declared.raw.RawStmt.{RawStmt}
-use Rattle.jimple_grammar.specs.Words.{names}
+use Rattle.jimple_words.specs.Sets.{names}
 use Rattle.jimple_grammar.specs.Grammar.{ends, both, Spells}
 use Rattle.jimple_grammar.specs.Forms.{too_many, label, behind_name, item, catch, catches, later_items, front_items, stmt, code, slot, next_slot, later_slots, slots, decl, room_behind, block, body}
 use Rattle.jimple_grammar.specs.Fits.{Is, ItemFits, StmtFits, CodeFits, CatchFits, DeclFits, names_of, BodyFits}

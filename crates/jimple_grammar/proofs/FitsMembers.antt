@@ -2,13 +2,14 @@
 use Rattle.std.proofs.Common.{◌≡◌, ℕ, zero, suc, pred, ◌≤◌, true, false, List, [], ◌∷◌, ◌++◌, length, All, refl, arith}
 use Rattle.std.proofs.lemmas.List.Elements.{All-nil, All-cons}
 use Rattle.jimple_grammar.specs.declared.lexeme.Lexeme.{Lexeme}
-use Rattle.jimple_grammar.specs.declared.kind.Kind.TheVariants as kinds
+use Rattle.jimple_words.specs.declared.kind.Kind.TheVariants as kinds
 use Rattle.jimple_grammar.specs.declared.raw.RawClass.{RawClass}
 use Rattle.jimple_grammar.specs.declared.raw.RawHead.{RawHead}
 use Rattle.jimple_grammar.specs.declared.raw.RawType.{RawType}
-use Rattle.jimple_grammar.specs.Words.{names, types, words, modifiers}
+use Rattle.jimple_words.specs.Sets.{names, types, words, modifiers, sure_types}
 use Rattle.jimple_grammar.specs.Grammar.{ends, Spells}
-use Rattle.jimple_grammar.specs.Forms.{too_many, most_params, param_slot, next_param, later_params, heading_params, throws, body_or_none, modifier, plain_rest, far_rest, sure_types, member_type, head, method_rest, behind_head, member, implements, extends_one, extends_several, class_heading, interface_heading, heading, members, class, file}
+use Rattle.clean_base.specs.Limits.{most_params}
+use Rattle.jimple_grammar.specs.Forms.{too_many, param_slot, next_param, later_params, heading_params, throws, body_or_none, modifier, plain_rest, far_rest, member_type, head, method_rest, behind_head, member, implements, extends_one, extends_several, class_heading, interface_heading, heading, members, class, file}
 use Rattle.jimple_grammar.specs.Fits.{Is, TypeFits, OptionalBodyFits, HeadFits, MemberFits, HeadingFits, ClassFits}
 use Rattle.jimple_grammar.proofs.FitsParts.{Yields, anything, of_nothing, of_token, of_refused, of_either, of_both, behind, app, keep, skip, weaker, of_many, of_plain, wider}
 use Rattle.jimple_grammar.proofs.FitsOperands.{name_fits, any_name_fits, several_names_fit, ty_fits}

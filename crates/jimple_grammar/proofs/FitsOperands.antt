@@ -2,10 +2,10 @@
 use Rattle.std.proofs.Common.{◌≡◌, ℕ, zero, suc, [], ◌∷◌, length, All, refl, ap}
 use Rattle.std.proofs.lemmas.List.Elements.{All-nil, All-cons}
 use Rattle.jimple_grammar.specs.declared.lexeme.Lexeme.{Lexeme}
-use Rattle.jimple_grammar.specs.declared.kind.Kind.TheVariants as kinds
-use Rattle.jimple_grammar.specs.Words.{names, plain_names, types, words, constants}
+use Rattle.jimple_words.specs.declared.kind.Kind.TheVariants as kinds
+use Rattle.jimple_words.specs.Sets.{names, plain_names, types, words, constants, based_calls}
 use Rattle.jimple_grammar.specs.Grammar.{Grammar, times}
-use Rattle.jimple_grammar.specs.Forms.{word_before, name, any_name, one_or_more, several_names, ty, several_types, params, sig, field_sig, constant, handle, imm, next_imm, args, based_calls, callee, call}
+use Rattle.jimple_grammar.specs.Forms.{word_before, name, any_name, one_or_more, several_names, ty, several_types, params, sig, field_sig, constant, handle, imm, next_imm, args, callee, call}
 use Rattle.jimple_grammar.specs.Fits.{Is, TypeFits, SigFits, FieldSigFits, ImmFits, BaseFits, CallFits}
 use Rattle.jimple_grammar.proofs.FitsParts.{Yields, anything, of_nothing, of_token, of_refused, of_either, of_both, of_given, behind, app, keep, skip, of_plain, wider}
 

@@ -2,7 +2,7 @@
 use Rattle.std.proofs.Common.{◌≡◌, ℕ, ◌+◌, ◌<◌, ◌≤◌, true, false, List, [], ◌∷◌, ◌++◌, length, All, sym, ◌∙◌, ap, subst, inl, inr, arith, length-append}
 use Rattle.std.proofs.lemmas.List.Elements.{All-nil, All-cons, All-head, All-tail}
 use Rattle.jimple_grammar.specs.declared.lexeme.Lexeme.{Lexeme}
-use Rattle.jimple_grammar.specs.Kind.{Kinds}
+use Rattle.jimple_words.specs.Kind.{Kinds}
 use Rattle.jimple_grammar.specs.Grammar.{Look, Grammar, nothing, token, refused, both, either, many, plain, given, ManySpells, last, more, Spells, ◌<*>◌, ◌<*◌, ◌*>◌}
 use Rattle.jimple_grammar.specs.Reading.{may_be_empty}
 use Rattle.jimple_grammar.specs.Fits.{Is}

@@ -2,10 +2,10 @@
 use Rattle.std.proofs.Common.{ℕ, ◌<◌, ◌≤◌, [], ◌∷◌, All, refl, sym, subst, arith}
 use Rattle.std.proofs.lemmas.List.Elements.{All-cons, All-weaker}
 use Rattle.jimple_grammar.specs.declared.lexeme.Lexeme.{Lexeme}
-use Rattle.jimple_grammar.specs.declared.kind.Kind.TheVariants as kinds
+use Rattle.jimple_words.specs.declared.kind.Kind.TheVariants as kinds
 use Rattle.jimple_grammar.specs.declared.raw.RawImm.{RawImm}
 use Rattle.jimple_grammar.specs.declared.raw.RawImm.TheVariants as imms
-use Rattle.jimple_grammar.specs.Words.{names, plain_names, operators}
+use Rattle.jimple_words.specs.Sets.{names, plain_names, operators}
 use Rattle.jimple_grammar.specs.Grammar.{ends}
 use Rattle.jimple_grammar.specs.Forms.{word_before, bracket_pair, brackets, element, behind_operand, behind_local, behind_handle, cast, new_array, later_lengths, new_multi, local_rhs, handle_rhs, constant_rhs, new_object, length_of, negated, static_load, called, rhs}
 use Rattle.jimple_grammar.specs.Fits.{Is, ImmFits, RhsFits}

@@ -1,10 +1,10 @@
 -- The trees of statements fit.
 use Rattle.std.proofs.Common.{ℕ, [], ◌∷◌, All}
 use Rattle.jimple_grammar.specs.declared.lexeme.Lexeme.{Lexeme}
-use Rattle.jimple_grammar.specs.declared.kind.Kind.TheVariants as kinds
+use Rattle.jimple_words.specs.declared.kind.Kind.TheVariants as kinds
 use Rattle.jimple_grammar.specs.declared.raw.RawStmt.TheVariants as stmts
-use Rattle.jimple_grammar.specs.Words.{names, conditions}
-use Rattle.jimple_grammar.specs.Forms.{unsupported, too_many, this_given, param_given, caught_given, given_value, stored, identity, assign, store_field, store_element, local_stmt, store_static, call_stmt, jump, if_stmt, goto_stmt, case, cases, switches, switch_stmt, returned, return_stmt, throw_stmt, nop_stmt, enter_stmt, exit_stmt, word_stmt, stmt}
+use Rattle.jimple_words.specs.Sets.{names, conditions, switches}
+use Rattle.jimple_grammar.specs.Forms.{unsupported, too_many, this_given, param_given, caught_given, given_value, stored, identity, assign, store_field, store_element, local_stmt, store_static, call_stmt, jump, if_stmt, goto_stmt, case, cases, switch_stmt, returned, return_stmt, throw_stmt, nop_stmt, enter_stmt, exit_stmt, word_stmt, stmt}
 use Rattle.jimple_grammar.specs.Fits.{Is, ImmFits, GivenFits, CaseFits, StmtFits}
 use Rattle.jimple_grammar.proofs.FitsParts.{Yields, anything, of_nothing, of_token, of_refused, of_either, behind, app, keep, skip, of_plain}
 use Rattle.jimple_grammar.proofs.FitsOperands.{name_fits, ty_fits, field_sig_fits, imm_fits, call_fits}

@@ -1,7 +1,7 @@
 -- Forms that begin with one token: what stands in front of what begins or spells them.
 use Rattle.std.proofs.Common.{◌≡◌, ℕ, true, false, List, [], ◌∷◌, ◌++◌, refl, sym, ◌∙◌, ap, subst, inl, inr}
 use Rattle.jimple_grammar.specs.declared.lexeme.Lexeme.{Lexeme}
-use Rattle.jimple_grammar.specs.Kind.{Kinds, has}
+use Rattle.jimple_words.specs.Kind.{Kinds, has}
 use Rattle.jimple_grammar.specs.Grammar.{Grammar, token, both, Spells, BeginsBy}
 use Rattle.jimple_grammar.specs.Reading.{may_be_empty}
 use Rattle.jimple_grammar.proofs.Starts.{laws, empty_when, not_both}

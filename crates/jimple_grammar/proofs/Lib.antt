@@ -7,7 +7,6 @@ pub mod Front
 pub mod Loops
 pub mod Groups
 pub mod Whole
-pub mod ByLength
 pub mod SureOperands
 pub mod Opens
 pub mod SureRightSides
@@ -17,7 +16,6 @@ pub mod SureBodies
 pub mod SureDeclarations
 pub mod Modifiers
 pub mod SureMembers
-pub mod Digits
 pub mod FitsParts
 pub mod FitsOperands
 pub mod FitsRightSides

@@ -1,14 +1,14 @@
 -- A further modifier word is a modifier where a word follows, and else the type of a field or a method.
 use Rattle.std.proofs.Common.{◌≡◌, ◌⊎◌, ℕ, ◌≤◌, true, false, List, [], ◌∷◌, ◌++◌, length, refl, sym, ◌∙◌, ap, subst, inl, inr, arith}
 use mathlib.Core.Bool.{◌&&◌}
-use Rattle.jimple_grammar.specs.declared.kind.Kind.TheVariants as kinds
+use Rattle.jimple_words.specs.declared.kind.Kind.TheVariants as kinds
 use Rattle.jimple_grammar.specs.declared.lexeme.Lexeme.{Lexeme}
 use Rattle.jimple_grammar.specs.declared.raw.RawType.{RawType}
-use Rattle.jimple_grammar.specs.Kind.{Kinds, has}
-use Rattle.jimple_grammar.specs.Words.{words, modifiers}
+use Rattle.jimple_words.specs.Kind.{Kinds, has}
+use Rattle.jimple_words.specs.Sets.{words, modifiers, sure_types}
 use Rattle.jimple_grammar.specs.Grammar.{Spells, BeginsBy, ManySpells, last, more, ManyBegins, piece, end, later}
 use Rattle.jimple_grammar.specs.Reading.{sees, sees_one}
-use Rattle.jimple_grammar.specs.Forms.{brackets, modifier, put, plain_rest, far_rest, sure_types, member_type, before_modifier, head}
+use Rattle.jimple_grammar.specs.Forms.{brackets, modifier, put, plain_rest, far_rest, member_type, before_modifier, head}
 use Rattle.jimple_grammar.proofs.Starts.{laws, many_laws, not_both, or_left, or_right, and_both, and_parts, has_left, has_right}
 use Rattle.jimple_grammar.proofs.Sure.{Sure, Tells, PieceBegins, starts, apart, or_cases, off_when}
 use Rattle.jimple_grammar.proofs.Front.{token_off, token_on}

@@ -4,8 +4,8 @@ use Rattle.std.specs.Prelude.{◌==◌}
 use Rattle.std.proofs.lemmas.Bool.{eqb-true}
 use mathlib.Core.Bool.{◌&&◌}
 use Rattle.jimple_grammar.specs.declared.lexeme.Lexeme.{Lexeme}
-use Rattle.jimple_grammar.specs.declared.kind.Kind.{Kind}
-use Rattle.jimple_grammar.specs.Kind.{Kinds, has, among, number}
+use Rattle.jimple_words.specs.declared.kind.Kind.{Kind}
+use Rattle.jimple_words.specs.Kind.{Kinds, has, among, number}
 use Rattle.jimple_grammar.specs.Grammar.{Grammar, nothing, token, refused, both, either, many, given, ManySpells, last, more, ManyBegins, piece, end, later, Spells, BeginsBy, Then, ThenBegins}
 use Rattle.jimple_grammar.specs.Reading.{sees_one, sees}
 use Rattle.jimple_grammar.proofs.Parts.{cut, Laws}

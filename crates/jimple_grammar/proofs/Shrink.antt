@@ -2,7 +2,7 @@
 use Rattle.std.proofs.Common.{◌≡◌, ◌⊎◌, ℕ, zero, suc, ◌<◌, ◌≤◌, Bool, true, false, cond, List, [], ◌∷◌, length, Ok, Err, subst, refl, inl, inr, arith}
 use mathlib.Core.Bool.{◌&&◌, ◌||◌}
 use Rattle.jimple_grammar.specs.declared.lexeme.Lexeme.{Lexeme}
-use Rattle.jimple_grammar.specs.Kind.{has, Kinds}
+use Rattle.jimple_words.specs.Kind.{has, Kinds}
 use Rattle.jimple_grammar.specs.Grammar.{Look, Grammar, nothing, token, refused, both, either, many, given}
 use Rattle.jimple_grammar.specs.Reading.{sees, sees_one, Read, ◌>>=◌, read_token, read_refused, may_be_empty, first, repeat, reading}
 

@@ -3,8 +3,8 @@ use Rattle.std.proofs.Common.{◌≡◌, ◌⊎◌, ℕ, suc, Bool, true, false,
 use mathlib.Core.Bool.{◌&&◌, ◌||◌}
 use Rattle.std.specs.Prelude.{◌==◌}
 use Rattle.jimple_grammar.specs.declared.lexeme.Lexeme.{Lexeme}
-use Rattle.jimple_grammar.specs.declared.kind.Kind.{Kind}
-use Rattle.jimple_grammar.specs.Kind.{has, Kinds, number}
+use Rattle.jimple_words.specs.declared.kind.Kind.{Kind}
+use Rattle.jimple_words.specs.Kind.{has, Kinds, number}
 use Rattle.jimple_grammar.specs.Grammar.{Grammar, nothing, token, refused, both, either, many, given, ManySpells, last, more, ManyBegins, piece, end, later, Spells, BeginsBy}
 use Rattle.jimple_grammar.specs.Reading.{may_be_empty, first}
 use Rattle.jimple_grammar.proofs.Parts.{cut, Laws, then_laws}

@@ -1,13 +1,13 @@
 -- The first tokens of statements that begin with a name, and of labels before them.
 use Rattle.std.proofs.Common.{◌≡◌, ℕ, ◌≤◌, true, List, [], ◌∷◌, ◌++◌, length, refl, sym, subst, inl, inr, arith}
-use Rattle.jimple_grammar.specs.declared.kind.Kind.TheVariants as kinds
+use Rattle.jimple_words.specs.declared.kind.Kind.TheVariants as kinds
 use Rattle.jimple_grammar.specs.declared.lexeme.Lexeme.{Lexeme}
 use Rattle.jimple_grammar.specs.declared.raw.RawImm.{RawImm}
 use Rattle.jimple_grammar.specs.declared.raw.RawItem.{RawItem}
 use Rattle.jimple_grammar.specs.declared.raw.RawStmt.{RawStmt}
 use Rattle.jimple_grammar.specs.declared.raw.RawStmt.TheVariants as stmts_are
-use Rattle.jimple_grammar.specs.Kind.{Kinds, has}
-use Rattle.jimple_grammar.specs.Words.{names}
+use Rattle.jimple_words.specs.Kind.{Kinds, has}
+use Rattle.jimple_words.specs.Sets.{names}
 use Rattle.jimple_grammar.specs.Grammar.{Grammar, nothing, both, given, Spells, BeginsBy, ◌<*>◌}
 use Rattle.jimple_grammar.specs.Reading.{first}
 use Rattle.jimple_grammar.specs.Forms.{sign, name, brackets, ty, sig, several_types, params, field_sig, constant, handle, imm, callee, call, element, cast, new_array, later_lengths, new_multi, local_rhs, handle_rhs, constant_rhs, new_object, length_of, negated, static_load, called, rhs, this_given, param_given, caught_given, given_value, stored, identity, assign, store_field, store_element, local_stmt, store_static, call_stmt, if_stmt, goto_stmt, cases, switch_stmt, returned, return_stmt, throw_stmt, nop_stmt, enter_stmt, exit_stmt, word_stmt, stmt, later_items, front_items}

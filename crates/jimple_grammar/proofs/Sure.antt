@@ -4,8 +4,8 @@ use Rattle.std.specs.Prelude.{◌==◌}
 use Rattle.std.proofs.lemmas.Bool.{eqb-true}
 use mathlib.Core.Bool.{◌||◌}
 use Rattle.jimple_grammar.specs.declared.lexeme.Lexeme.{Lexeme}
-use Rattle.jimple_grammar.specs.declared.kind.Kind.{Kind}
-use Rattle.jimple_grammar.specs.Kind.{has, Kinds, among, number}
+use Rattle.jimple_words.specs.declared.kind.Kind.{Kind}
+use Rattle.jimple_words.specs.Kind.{has, Kinds, among, number}
 use Rattle.jimple_grammar.specs.Grammar.{Look, Grammar, nothing, token, refused, both, either, many, plain, given, Then, ThenBegins, ManySpells, last, more, ManyBegins, piece, end, later, Spells, Begins, BeginsBy}
 use Rattle.jimple_grammar.specs.Reading.{sees, sees_one, Read, ◌>>=◌, read_token, read_refused, may_be_empty, first, repeat, reading}
 use Rattle.jimple_grammar.proofs.Shrink.{Shorter, shrinks}

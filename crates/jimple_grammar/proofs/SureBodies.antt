@@ -1,12 +1,12 @@
 -- The choices of bodies show by the tokens in front: a name and `:` tell a label from a statement.
 use Rattle.std.proofs.Common.{◌≡◌, ◌⊎◌, ℕ, ◌≤◌, true, List, [], ◌∷◌, ◌++◌, length, refl, rules, sym, subst, inl, inr, arith}
-use Rattle.jimple_grammar.specs.declared.kind.Kind.TheVariants as kinds
+use Rattle.jimple_words.specs.declared.kind.Kind.TheVariants as kinds
 use Rattle.jimple_grammar.specs.declared.lexeme.Lexeme.{Lexeme}
 use Rattle.jimple_grammar.specs.declared.raw.RawCode.{RawCode}
 use Rattle.jimple_grammar.specs.declared.raw.RawItem.{RawItem}
 use Rattle.jimple_grammar.specs.declared.raw.RawStmt.{RawStmt}
-use Rattle.jimple_grammar.specs.Kind.{Kinds, has}
-use Rattle.jimple_grammar.specs.Words.{names}
+use Rattle.jimple_words.specs.Kind.{Kinds, has}
+use Rattle.jimple_words.specs.Sets.{names}
 use Rattle.jimple_grammar.specs.Grammar.{token, ends, Spells, BeginsBy, ManySpells, last, more, end}
 use Rattle.jimple_grammar.specs.Reading.{first}
 use Rattle.jimple_grammar.specs.Forms.{field_sig, callee, call, element, identity, assign, store_field, store_element, local_stmt, store_static, call_stmt, if_stmt, goto_stmt, switch_stmt, return_stmt, throw_stmt, nop_stmt, enter_stmt, exit_stmt, word_stmt, label, behind_name, item, catch, catches, later_items, before_label, code}

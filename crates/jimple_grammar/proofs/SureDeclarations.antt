@@ -1,16 +1,17 @@
 -- The declarations of a body show by the tokens in front: a primitive, two names, or a name and `[ ]`.
 use Rattle.std.proofs.Common.{◌≡◌, ◌⊎◌, ℕ, zero, suc, pred, ◌≤◌, Bool, true, false, List, [], ◌∷◌, ◌++◌, length, refl, sym, ◌∙◌, ap, subst, inl, inr, arith, append_assoc}
 use mathlib.Core.Bool.{◌&&◌, ◌||◌}
-use Rattle.jimple_grammar.specs.declared.kind.Kind.TheVariants as kinds
+use Rattle.jimple_words.specs.declared.kind.Kind.TheVariants as kinds
 use Rattle.jimple_grammar.specs.declared.lexeme.Lexeme.{Lexeme}
 use Rattle.jimple_grammar.specs.declared.raw.RawCatch.{RawCatch}
 use Rattle.jimple_grammar.specs.declared.raw.RawCode.{RawCode}
 use Rattle.jimple_grammar.specs.declared.raw.RawDecl.{RawDecl}
-use Rattle.jimple_grammar.specs.Kind.{Kinds, has}
-use Rattle.jimple_grammar.specs.Words.{names, primitives, types}
+use Rattle.jimple_words.specs.Kind.{Kinds, has}
+use Rattle.jimple_words.specs.Sets.{names, primitives, types}
 use Rattle.jimple_grammar.specs.Grammar.{Grammar, token, both, ends, Spells, BeginsBy, ManyBegins, ◌<*◌}
 use Rattle.jimple_grammar.specs.Reading.{sees, sees_one, may_be_empty, first}
-use Rattle.jimple_grammar.specs.Forms.{sign, typed, brackets, ty, field_sig, callee, call, if_stmt, goto_stmt, switch_stmt, return_stmt, throw_stmt, nop_stmt, enter_stmt, exit_stmt, store_static, call_stmt, word_stmt, stmt, catch, catches, code, slot, next_slot, later_slots, slots, declared_as, decl, before_decl, room_behind, most_locals, code_catches, block, body}
+use Rattle.clean_base.specs.Limits.{most_locals}
+use Rattle.jimple_grammar.specs.Forms.{sign, typed, brackets, ty, field_sig, callee, call, if_stmt, goto_stmt, switch_stmt, return_stmt, throw_stmt, nop_stmt, enter_stmt, exit_stmt, store_static, call_stmt, word_stmt, stmt, catch, catches, code, slot, next_slot, later_slots, slots, declared_as, decl, before_decl, room_behind, code_catches, block, body}
 use Rattle.jimple_grammar.proofs.Starts.{disjoint, next, laws, not_both, or_left, or_right, and_both, and_parts, has_left, has_right}
 use Rattle.jimple_grammar.proofs.Sure.{Sure, Tells, PieceBegins, starts, one_tells, apart, or_cases, off_when}
 use Rattle.jimple_grammar.proofs.Front.{token_off, token_on}

@@ -1,12 +1,12 @@
 -- The choices of fields, methods, classes and files show by the tokens in front.
 use Rattle.std.proofs.Common.{◌≡◌, ℕ, zero, suc, pred, Bool, true, false, List, [], ◌∷◌, ◌++◌, refl, rules, sym, ◌∙◌, ap}
 use mathlib.Core.Bool.{◌&&◌}
-use Rattle.jimple_grammar.specs.declared.kind.Kind.TheVariants as kinds
-use Rattle.jimple_grammar.specs.declared.kind.Kind.{Kind}
+use Rattle.jimple_words.specs.declared.kind.Kind.TheVariants as kinds
+use Rattle.jimple_words.specs.declared.kind.Kind.{Kind}
 use Rattle.jimple_grammar.specs.declared.lexeme.Lexeme.{Lexeme}
 use Rattle.jimple_grammar.specs.declared.raw.RawHead.{RawHead}
-use Rattle.jimple_grammar.specs.Kind.{Kinds, has}
-use Rattle.jimple_grammar.specs.Words.{types, modifiers}
+use Rattle.jimple_words.specs.Kind.{Kinds, has}
+use Rattle.jimple_words.specs.Sets.{types, modifiers}
 use Rattle.jimple_grammar.specs.Grammar.{Grammar, both, ends}
 use Rattle.jimple_grammar.specs.Reading.{sees, may_be_empty, first}
 use Rattle.jimple_grammar.specs.Forms.{sign, ty, body, param_slot, next_param, later_params, heading_params, throws, body_or_none, modifier, member_type, head, method_rest, behind_head, member, implements, extends_one, extends_several, class_heading, interface_heading, heading, before_member, members, heading_members, classed, class, file}

@@ -1,7 +1,7 @@
 -- The choices of types, signatures, operands and calls show by the token in front.
 use Rattle.std.proofs.Common.{◌≡◌, ℕ, zero, suc, true, [], ◌∷◌, ◌++◌, length, refl, rules}
-use Rattle.jimple_grammar.specs.declared.kind.Kind.TheVariants as kinds
-use Rattle.jimple_grammar.specs.Kind.{Kinds}
+use Rattle.jimple_words.specs.declared.kind.Kind.TheVariants as kinds
+use Rattle.jimple_words.specs.Kind.{Kinds}
 use Rattle.jimple_grammar.specs.Grammar.{Grammar, ends, ◌*>◌, times}
 use Rattle.jimple_grammar.specs.Forms.{sign, name, others, several_names, bracket_pair, brackets, ty, several_types, params, sig, field_sig, constant, handle, imm, next_imm, args, callee, call}
 use Rattle.jimple_grammar.proofs.Starts.{disjoint, next}

@@ -1,10 +1,10 @@
 -- The choices of right sides show by the tokens in front; `[` and an operand tell one more length from empty brackets.
 use Rattle.std.proofs.Common.{◌≡◌, ℕ, ◌≤◌, true, false, List, [], ◌∷◌, ◌++◌, length, refl, rules, sym, ◌∙◌, inl, inr, arith}
-use Rattle.jimple_grammar.specs.declared.kind.Kind.TheVariants as kinds
+use Rattle.jimple_words.specs.declared.kind.Kind.TheVariants as kinds
 use Rattle.jimple_grammar.specs.declared.lexeme.Lexeme.{Lexeme}
 use Rattle.jimple_grammar.specs.declared.raw.RawImm.{RawImm}
-use Rattle.jimple_grammar.specs.Kind.{Kinds, has}
-use Rattle.jimple_grammar.specs.Words.{names}
+use Rattle.jimple_words.specs.Kind.{Kinds, has}
+use Rattle.jimple_words.specs.Sets.{names}
 use Rattle.jimple_grammar.specs.Grammar.{token, both, ends, Spells, BeginsBy, ManySpells, last, more, piece}
 use Rattle.jimple_grammar.specs.Reading.{may_be_empty, first}
 use Rattle.jimple_grammar.specs.Forms.{bracket_pair, brackets, field_sig, constant, handle, imm, callee, call, element, behind_operand, behind_local, behind_handle, cast, new_array, before_length, later_lengths, new_multi, local_rhs, handle_rhs, constant_rhs, new_object, length_of, negated, static_load, called, rhs}

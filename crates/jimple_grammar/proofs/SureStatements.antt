@@ -1,9 +1,9 @@
 -- The choices of statements show by the token in front. No statement is one token, and none that begins with a name is two.
 use Rattle.std.proofs.Common.{◌≡◌, true, [], ◌∷◌, refl, rules}
-use Rattle.jimple_grammar.specs.declared.kind.Kind.TheVariants as kinds
+use Rattle.jimple_words.specs.declared.kind.Kind.TheVariants as kinds
 use Rattle.jimple_grammar.specs.declared.lexeme.Lexeme.{Lexeme}
 use Rattle.jimple_grammar.specs.declared.raw.RawStmt.{RawStmt}
-use Rattle.jimple_grammar.specs.Kind.{Kinds}
+use Rattle.jimple_words.specs.Kind.{Kinds}
 use Rattle.jimple_grammar.specs.Grammar.{Grammar, either, ends}
 use Rattle.jimple_grammar.specs.Forms.{field_sig, constant, handle, imm, callee, call, element, this_given, param_given, caught_given, given_value, stored, identity, assign, store_field, store_element, local_stmt, store_static, call_stmt, if_stmt, goto_stmt, case, cases, switch_stmt, returned, return_stmt, throw_stmt, nop_stmt, enter_stmt, exit_stmt, word_stmt, stmt}
 use Rattle.jimple_grammar.proofs.Starts.{disjoint}

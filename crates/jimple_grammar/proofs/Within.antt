@@ -1,7 +1,7 @@
 -- Forms within forms: whatever spells the one spells the other, with the same tree, and whatever begins the one begins the other.
 use Rattle.std.proofs.Common.{ℕ, List, sym, subst, inl, inr}
 use Rattle.jimple_grammar.specs.declared.lexeme.Lexeme.{Lexeme}
-use Rattle.jimple_grammar.specs.Kind.{Kinds}
+use Rattle.jimple_words.specs.Kind.{Kinds}
 use Rattle.jimple_grammar.specs.Grammar.{Look, Grammar, refused, both, either, many, given, ManySpells, last, more, ManyBegins, piece, end, later, Spells, Begins}
 use Rattle.jimple_grammar.specs.AsWritten.{Same}
 use Rattle.jimple_grammar.proofs.Starts.{laws}

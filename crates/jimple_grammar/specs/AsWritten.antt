@@ -3,7 +3,8 @@
 -- the same trees, and the same beginnings. A token that a form names only to refuse it stands in `Forms` alone, but for those
 -- beyond the room for parameters and locals: it spells and begins nothing.
 use Rattle.std.specs.Prelude.{◌≡◌, ◌↔◌, ℕ, zero, suc, List, [], ◌∷◌, ◌++◌, length, map, Option, Some, None}
-use Rattle.jimple_grammar.specs.declared.kind.Kind.TheVariants as kinds
+use Rattle.clean_base.specs.Limits.{most_locals}
+use Rattle.jimple_words.specs.declared.kind.Kind.TheVariants as kinds
 use Rattle.jimple_grammar.specs.declared.lexeme.Lexeme.{Lexeme}
 use Rattle.jimple_grammar.specs.declared.raw.RawBody.{RawBody}
 use Rattle.jimple_grammar.specs.declared.raw.RawCall.{RawCall}
@@ -23,9 +24,9 @@ use Rattle.jimple_grammar.specs.declared.raw.RawRhs.TheVariants as sides
 use Rattle.jimple_grammar.specs.declared.raw.RawStmt.{RawStmt}
 use Rattle.jimple_grammar.specs.declared.raw.RawStmt.TheVariants as stmts
 use Rattle.jimple_grammar.specs.declared.raw.RawType.{RawType}
-use Rattle.jimple_grammar.specs.Words.{constants, conditions, operators}
+use Rattle.jimple_words.specs.Sets.{constants, conditions, operators, based_calls, switches, sure_types}
 use Rattle.jimple_grammar.specs.Grammar.{Grammar, Spells, Begins, nothing, token, both, either, many, plain, given, ◌<*>◌, ◌<*◌, ◌*>◌, ends, times}
-use Rattle.jimple_grammar.specs.Forms.{sign, name, any_name, bracket_pair, brackets, typed, ty, sig, field_sig, static_callee, based_callee, based_calls, before_length, lengths_and_bare, multi, new_object, static_load, jump, goto_stmt, cases, switches, maybe_semicolon, switched, nop_stmt, catches, before_item, before_label, label, front_items, coded, before_decl, decl, room_behind, most_locals, code_catches, bodied, heading_params, throws, modifier, sure_types, headed, before_modifier, class_heading, interface_heading, before_member, heading_members, before_class_modifier, classed, before_class}
+use Rattle.jimple_grammar.specs.Forms.{sign, name, any_name, bracket_pair, brackets, typed, ty, sig, field_sig, static_callee, based_callee, before_length, lengths_and_bare, multi, new_object, static_load, jump, goto_stmt, cases, maybe_semicolon, switched, nop_stmt, catches, before_item, before_label, label, front_items, coded, before_decl, decl, room_behind, code_catches, bodied, heading_params, throws, modifier, headed, before_modifier, class_heading, interface_heading, before_member, heading_members, before_class_modifier, classed, before_class}
 
 -- The same tokens spell both forms, with the same trees, and the same tokens begin both.
 pub record Same {A : Type 0} (a b : Grammar A) : Type 0 where

@@ -1,7 +1,7 @@
 -- What each tree that is read fits: tokens of the text, of the kinds that stand in their places, and the grammar's rules on
 -- numbers. `P` holds of the tokens of the text, of which there are `n`.
 use Rattle.std.specs.Prelude.{◌≡◌, ℕ, ◌+◌, ◌≤◌, ◌<◌, true, false, List, [], ◌∷◌, ◌++◌, length, flat_map, Option, Some, None, All}
-use Rattle.jimple_grammar.specs.declared.kind.Kind.TheVariants as kinds
+use Rattle.jimple_words.specs.declared.kind.Kind.TheVariants as kinds
 use Rattle.jimple_grammar.specs.declared.lexeme.Lexeme.{Lexeme}
 use Rattle.jimple_grammar.specs.declared.raw.RawBody.{RawBody}
 use Rattle.jimple_grammar.specs.declared.raw.RawCall.{RawCall}
@@ -30,9 +30,9 @@ use Rattle.jimple_grammar.specs.declared.raw.RawStmt.{RawStmt}
 use Rattle.jimple_grammar.specs.declared.raw.RawStmt.TheVariants as stmts
 use Rattle.jimple_grammar.specs.declared.raw.RawSwitch.{RawSwitch}
 use Rattle.jimple_grammar.specs.declared.raw.RawType.{RawType}
-use Rattle.jimple_grammar.specs.Kind.{Kinds, has}
-use Rattle.jimple_grammar.specs.Words.{names, types, words, modifiers, constants, conditions, operators}
-use Rattle.jimple_grammar.specs.Forms.{based_calls, switches, most_locals, most_params}
+use Rattle.jimple_words.specs.Kind.{Kinds, has}
+use Rattle.jimple_words.specs.Sets.{names, types, words, modifiers, constants, conditions, operators, based_calls, switches}
+use Rattle.clean_base.specs.Limits.{most_locals, most_params}
 
 -- the names of a declaration
 abbrev pub names_of : RawDecl → List Lexeme

@@ -1,8 +1,9 @@
 -- The grammar of class files, from the smallest form to the file (docs/FORMATS.md, "Grammar"). A form with several
 -- productions that begin alike is written with what they share in front: `local` and what stands behind a local, say.
 use Rattle.std.specs.Prelude.{ℕ, zero, suc, pred, ◌-◌, true, false, List, [], ◌∷◌, ◌++◌, length, Option, Some, None}
-use Rattle.jimple_grammar.specs.declared.kind.Kind.{Kind}
-use Rattle.jimple_grammar.specs.declared.kind.Kind.TheVariants as kinds
+use Rattle.clean_base.specs.Limits.{most_locals, most_params}
+use Rattle.jimple_words.specs.declared.kind.Kind.{Kind}
+use Rattle.jimple_words.specs.declared.kind.Kind.TheVariants as kinds
 use Rattle.jimple_grammar.specs.declared.lexeme.Lexeme.{Lexeme}
 use Rattle.jimple_grammar.specs.declared.raw.RawBody.{RawBody}
 use Rattle.jimple_grammar.specs.declared.raw.RawCall.{RawCall}
@@ -29,8 +30,7 @@ use Rattle.jimple_grammar.specs.declared.raw.RawSig.{RawSig}
 use Rattle.jimple_grammar.specs.declared.raw.RawStmt.{RawStmt}
 use Rattle.jimple_grammar.specs.declared.raw.RawStmt.TheVariants as stmts
 use Rattle.jimple_grammar.specs.declared.raw.RawType.{RawType}
-use Rattle.jimple_grammar.specs.Kind.{Kinds}
-use Rattle.jimple_grammar.specs.Words.{names, plain_names, primitives, types, words, modifiers, constants, conditions, operators}
+use Rattle.jimple_words.specs.Sets.{names, plain_names, primitives, types, words, modifiers, constants, conditions, operators, sure_types, based_calls, switches, statement_words}
 use Rattle.jimple_grammar.specs.Grammar.{Look, Grammar, nothing, token, refused, both, either, many, plain, given, ◌<*>◌, ◌<*◌, ◌*>◌, ends, times}
 
 -- Why a token is refused: it is a word that isn't supported, one name too many, or a `:` behind a word that isn't supported.
@@ -131,9 +131,6 @@ static_callee word sig = record { word = word; base = None; sig = sig }
 
 abbrev pub based_callee : Lexeme → Lexeme → RawSig → RawCallee
 based_callee word base sig = record { word = word; base = Some base; sig = sig }
-
-abbrev pub based_calls : Kinds
-based_calls = kinds.Virtualinvoke ∷ kinds.Interfaceinvoke ∷ kinds.Specialinvoke ∷ []
 
 -- "staticinvoke" sig | ("virtualinvoke" | "interfaceinvoke" | "specialinvoke") local "." sig; "dynamicinvoke" is refused
 unfoldable pub callee : Grammar RawCallee
@@ -285,9 +282,6 @@ case = nothing (λ value target. record { value = value; target = target }) <* s
 unfoldable pub cases : Grammar (List RawCase)
 cases = plain (λ xs end. xs) (((kinds.Case ∷ []) ∷ []) ∷ []) case ends
 
-abbrev pub switches : Kinds
-switches = kinds.Lookupswitch ∷ kinds.Tableswitch ∷ []
-
 -- [";"]
 abbrev pub maybe_semicolon : Grammar (Unit {0})
 maybe_semicolon = either (sign kinds.Semicolon *> ends) ends
@@ -350,10 +344,6 @@ catch = nothing (λ class from to with. record { class = class; from = from; to 
 unfoldable pub catches : Grammar (List RawCatch)
 catches = plain (λ xs end. xs) (((kinds.Catch ∷ []) ∷ []) ∷ []) catch ends
 
-abbrev pub statement_words : Kinds
-statement_words = kinds.Less ∷ kinds.Staticinvoke ∷ kinds.Virtualinvoke ∷ kinds.Interfaceinvoke ∷ kinds.Specialinvoke ∷ kinds.Dynamicinvoke ∷ kinds.If ∷ kinds.Goto
-    ∷ kinds.Lookupswitch ∷ kinds.Tableswitch ∷ kinds.Return ∷ kinds.Throw ∷ kinds.Nop ∷ kinds.Entermonitor ∷ kinds.Exitmonitor ∷ kinds.Ret ∷ kinds.Breakpoint ∷ []
-
 abbrev pub before_item : Look
 before_item = ((names ++ statement_words) ∷ []) ∷ []
 
@@ -373,9 +363,6 @@ coded labels front = record { labels = labels; front = front.0; rest = front.1 }
 -- (label ":" | stmt)*, with at least one statement: (label ":")* stmt (label ":" | stmt)*
 unfoldable pub code : Grammar RawCode
 code = plain coded before_label label (both front_items stmt later_items)
-
-abbrev pub most_locals : ℕ
-most_locals = 65535
 
 -- a name, where there is room for one
 abbrev pub slot : ℕ → Grammar Lexeme
@@ -422,9 +409,6 @@ body = sign kinds.OpenBrace *> block <* sign kinds.CloseBrace
 
 -- Members and classes
 
-abbrev pub most_params : ℕ
-most_params = 255
-
 abbrev pub param_slot : ℕ → Grammar RawType
 param_slot zero = refused too_many types
 param_slot (suc room) = ty
@@ -466,9 +450,6 @@ far_rest = bracket_pair *> far_tail
 
 abbrev pub put : Lexeme → (Lexeme → RawType × Lexeme) → RawType × Lexeme
 put base f = f base
-
-abbrev pub sure_types : Kinds
-sure_types = kinds.Word ∷ kinds.This ∷ kinds.Caughtexception ∷ kinds.Parameter ∷ kinds.HighParameter ∷ kinds.Handle ∷ primitives
 
 -- type anyname
 unfoldable pub member_type : Grammar (RawType × Lexeme)

@@ -1,7 +1,7 @@
 -- Grammars as typed data: what spells a form, with its tree, and what begins it.
 use Rattle.std.specs.Prelude.{◌≡◌, ◌⊎◌, ℕ, zero, suc, List, [], ◌∷◌, ◌++◌, true}
 use Rattle.jimple_grammar.specs.declared.lexeme.Lexeme.{Lexeme}
-use Rattle.jimple_grammar.specs.Kind.{Kinds, has}
+use Rattle.jimple_words.specs.Kind.{Kinds, has}
 
 -- What may stand in front of one more piece: the kinds of the first tokens, in each of several cases.
 abbrev pub Look : Type 0

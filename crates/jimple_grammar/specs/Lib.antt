@@ -1,11 +1,8 @@
-pub mod Kind
-pub mod Words
 pub mod Grammar
 pub mod Reading
 pub mod Gives
 pub mod Forms
 pub mod Stops
-pub mod Kinds
 pub mod Lexemes
 pub mod AsWritten
 pub mod Fits

@@ -3,16 +3,16 @@
 ghost use Rattle.std.specs.Prelude.{◌≡◌, ◌==◌, List, [], ◌∷◌, length};
 ghost use Rattle.jimple_grammar.specs.Reading.{sees, sees_one, read_token, read_refused, reading};
 ghost use Rattle.jimple_grammar.specs.Gives.{Gives, reason_number};
-ghost use Rattle.jimple_grammar.specs.Kind.{Kinds};
-ghost use Rattle.jimple_grammar.specs.Words.{names, plain_names, types, words, constants, conditions, operators};
-ghost use Rattle.jimple_grammar.specs.Forms.{sure_types, based_calls, switches, modifier, before_item, before_label, before_length, before_decl, before_modifier, before_class_modifier, before_member, before_class};
+ghost use Rattle.jimple_words.specs.Kind.{Kinds};
+ghost use Rattle.jimple_words.specs.Sets.{names, plain_names, types, words, constants, conditions, operators, sure_types, based_calls, switches};
+ghost use Rattle.jimple_grammar.specs.Forms.{modifier, before_item, before_label, before_length, before_decl, before_modifier, before_class_modifier, before_member, before_class};
 
-use crate::kind::Kind;
 use crate::lexeme::Lexeme;
+use jimple_words::kind::Kind;
 use std::alloc::{AllocError, AllocFailed};
 
 /// Why a token is refused.
-#[derive(Clone, Copy, Debug, PartialEq, Eq)]
+#[derive(Clone, Copy)]
 pub enum Reason {
     /// It is a word that isn't supported.
     Unsupported,
@@ -23,7 +23,7 @@ pub enum Reason {
 }
 
 /// Why the parser stops, with how many of the tokens are left there.
-#[derive(Debug, Drop)]
+#[derive(Drop)]
 pub enum ParseStop {
     OutOfMemory,
     /// The tokens no longer begin the form.

@@ -6,10 +6,7 @@
 #![tactic(auto)]
 
 mod cursor;
-pub mod kind;
-mod kinds;
 pub mod lexeme;
-mod parameter;
 pub mod raw;
 mod read;
 mod read_bodies;
@@ -18,8 +15,6 @@ mod read_operands;
 mod read_sides;
 mod read_statements;
 mod read_types;
-#[cfg(test)]
-mod tests;
 mod tokens;
 
 pub use cursor::{ParseStop, Reason};

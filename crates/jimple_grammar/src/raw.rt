@@ -4,7 +4,7 @@ use crate::lexeme::Lexeme;
 use clean_base::Seq;
 
 /// A class or an interface.
-#[derive(Debug, Drop)]
+#[derive(Drop)]
 pub struct RawClass {
     pub modifiers: Seq<Lexeme>,
     pub heading: RawHeading,
@@ -12,7 +12,7 @@ pub struct RawClass {
 }
 
 /// The name of a class, and its supertypes.
-#[derive(Debug, Drop)]
+#[derive(Drop)]
 pub struct RawHeading {
     pub is_interface: bool,
     pub name: Lexeme,
@@ -20,14 +20,14 @@ pub struct RawHeading {
     pub implements: Seq<Lexeme>,
 }
 
-#[derive(Debug, Drop)]
+#[derive(Drop)]
 pub enum RawMember {
     Field(RawHead),
     Method(RawHead, RawMethod),
 }
 
 /// The front of a field or of a method.
-#[derive(Debug, Drop)]
+#[derive(Drop)]
 pub struct RawHead {
     pub modifiers: Seq<Lexeme>,
     pub ty: RawType,
@@ -35,14 +35,14 @@ pub struct RawHead {
 }
 
 /// What stands behind the name of a method.
-#[derive(Debug, Drop)]
+#[derive(Drop)]
 pub struct RawMethod {
     pub params: Seq<RawType>,
     pub throws: Seq<Lexeme>,
     pub body: Option<RawBody>,
 }
 
-#[derive(Debug, Drop)]
+#[derive(Drop)]
 pub struct RawBody {
     pub decls: Seq<RawDecl>,
     pub code: RawCode,
@@ -50,28 +50,28 @@ pub struct RawBody {
 }
 
 /// Locals of one type.
-#[derive(Debug, Drop)]
+#[derive(Drop)]
 pub struct RawDecl {
     pub ty: RawType,
     pub names: Seq<Lexeme>,
 }
 
 /// The labels before the first statement, that statement, and what stands behind it.
-#[derive(Debug, Drop)]
+#[derive(Drop)]
 pub struct RawCode {
     pub labels: Seq<Lexeme>,
     pub front: RawStmt,
     pub rest: Seq<RawItem>,
 }
 
-#[derive(Debug, Drop)]
+#[derive(Drop)]
 pub enum RawItem {
     Label(Lexeme),
     Stmt(RawStmt),
 }
 
 /// A catch clause: the class, and three labels.
-#[derive(Clone, Copy, Debug)]
+#[derive(Clone, Copy)]
 pub struct RawCatch {
     pub class: Lexeme,
     pub from: Lexeme,
@@ -79,7 +79,7 @@ pub struct RawCatch {
     pub with: Lexeme,
 }
 
-#[derive(Debug, Drop)]
+#[derive(Drop)]
 pub enum RawStmt {
     Identity(Lexeme, RawGiven),
     Assign(Lexeme, RawRhs),
@@ -99,7 +99,7 @@ pub enum RawStmt {
 }
 
 /// A switch: its word, its key, its cases and its default label.
-#[derive(Debug, Drop)]
+#[derive(Drop)]
 pub struct RawSwitch {
     pub word: Lexeme,
     pub key: RawImm,
@@ -108,14 +108,14 @@ pub struct RawSwitch {
 }
 
 /// A case of a switch: its number and its label.
-#[derive(Clone, Copy, Debug)]
+#[derive(Clone, Copy)]
 pub struct RawCase {
     pub value: Lexeme,
     pub target: Lexeme,
 }
 
 /// What an identity statement gives.
-#[derive(Debug, Drop)]
+#[derive(Drop)]
 pub enum RawGiven {
     This(RawType),
     /// The word that names the parameter, and its type.
@@ -124,7 +124,7 @@ pub enum RawGiven {
 }
 
 /// What an assignment to a local reads.
-#[derive(Debug, Drop)]
+#[derive(Drop)]
 pub enum RawRhs {
     Use(RawImm),
     Cast(RawType, RawImm),
@@ -143,7 +143,7 @@ pub enum RawRhs {
 }
 
 /// An array of arrays: lengths, and how many empty brackets stand behind them.
-#[derive(Debug, Drop)]
+#[derive(Drop)]
 pub struct RawNewMulti {
     pub ty: RawType,
     pub lengths: Seq<RawImm>,
@@ -151,7 +151,7 @@ pub struct RawNewMulti {
 }
 
 /// An operand.
-#[derive(Clone, Copy, Debug)]
+#[derive(Clone, Copy)]
 pub enum RawImm {
     Local(Lexeme),
     /// A number, a string or `null`.
@@ -161,20 +161,20 @@ pub enum RawImm {
 }
 
 /// A call: its word, its base where it isn't static, and as many arguments as the signature has parameters.
-#[derive(Debug, Drop)]
+#[derive(Drop)]
 pub struct RawCall {
     pub callee: RawCallee,
     pub args: Seq<RawImm>,
 }
 
-#[derive(Debug, Drop)]
+#[derive(Drop)]
 pub struct RawCallee {
     pub word: Lexeme,
     pub base: Option<Lexeme>,
     pub sig: RawSig,
 }
 
-#[derive(Debug, Drop)]
+#[derive(Drop)]
 pub struct RawSig {
     pub class: Lexeme,
     pub result: RawType,
@@ -182,7 +182,7 @@ pub struct RawSig {
     pub params: Seq<RawType>,
 }
 
-#[derive(Clone, Copy, Debug)]
+#[derive(Clone, Copy)]
 pub struct RawFieldSig {
     pub class: Lexeme,
     pub ty: RawType,
@@ -190,7 +190,7 @@ pub struct RawFieldSig {
 }
 
 /// A type: a name or a primitive, and how many `[]` stand behind it.
-#[derive(Clone, Copy, Debug)]
+#[derive(Clone, Copy)]
 pub struct RawType {
     pub base: Lexeme,
     pub dims: u64,

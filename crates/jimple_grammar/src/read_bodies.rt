@@ -7,14 +7,12 @@ ghost use Rattle.jimple_grammar.specs.Gives.{Gives, GivesMore};
 ghost use Rattle.jimple_grammar.specs.Forms.{label, behind_name, item, catch, catches, later_items, front_items, stmt, code, code_catches, slot, next_slot, later_slots, slots, decl, block, body};
 
 use crate::cursor::{Cursor, ParseStop, Reason};
-use crate::kind::Kind;
 use crate::lexeme::Lexeme;
 use crate::raw::{RawBody, RawCatch, RawCode, RawDecl, RawItem, RawStmt};
 use clean_base::Seq;
+use clean_base::limits::MOST_LOCALS;
+use jimple_words::kind::Kind;
 use std::alloc::Global;
-
-/// The most locals of a body.
-const MOST_LOCALS: usize = 65_535;
 
 impl<'a> Cursor<'a> {
     fn label(&mut self) -> Result<Lexeme, ParseStop>

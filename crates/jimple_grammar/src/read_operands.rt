@@ -1,17 +1,17 @@
 // Reads operands and calls, a function for each form. Types and signatures stand below; the readers of right sides and of
 // statements above.
 ghost use Rattle.std.specs.Prelude.{◌≡◌, List, [], ◌∷◌, ◌++◌, length};
-ghost use Rattle.jimple_grammar.specs.declared.kind.Kind.TheVariants as kinds;
+ghost use Rattle.jimple_words.specs.declared.kind.Kind.TheVariants as kinds;
 ghost use Rattle.jimple_grammar.specs.Grammar.{times};
 ghost use Rattle.jimple_grammar.specs.Reading.{reading, sees};
 ghost use Rattle.jimple_grammar.specs.Gives.{Gives, GivesMore};
-ghost use Rattle.jimple_grammar.specs.Words.{plain_names, constants};
+ghost use Rattle.jimple_words.specs.Sets.{plain_names, constants};
 ghost use Rattle.jimple_grammar.specs.Forms.{constant, handle, imm, next_imm, args, callee, call};
 
 use crate::cursor::{Cursor, ParseStop, Reason};
-use crate::kind::Kind;
 use crate::raw::{RawCall, RawCallee, RawImm};
 use clean_base::Seq;
+use jimple_words::kind::Kind;
 use std::alloc::Global;
 
 impl<'a> Cursor<'a> {

@@ -6,10 +6,10 @@ ghost use Rattle.jimple_grammar.specs.Gives.{Gives, GivesMoreWith};
 ghost use Rattle.jimple_grammar.specs.Forms.{element, behind_operand, behind_local, behind_handle, cast, new_array, later_lengths, new_multi, local_rhs, handle_rhs, constant_rhs, new_object, length_of, negated, static_load, called, rhs};
 
 use crate::cursor::{Cursor, ParseStop, Reason};
-use crate::kind::Kind;
 use crate::lexeme::Lexeme;
 use crate::raw::{RawImm, RawNewMulti, RawRhs};
 use clean_base::Seq;
+use jimple_words::kind::Kind;
 use std::alloc::Global;
 
 impl<'a> Cursor<'a> {

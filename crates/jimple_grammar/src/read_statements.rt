@@ -1,16 +1,16 @@
 // Reads statements, a function for each form. Right sides, operands and calls stand below; the readers of bodies above.
 ghost use Rattle.std.specs.Prelude.{◌≡◌, List, [], ◌∷◌, ◌++◌};
-ghost use Rattle.jimple_grammar.specs.declared.kind.Kind.TheVariants as kinds;
+ghost use Rattle.jimple_words.specs.declared.kind.Kind.TheVariants as kinds;
 ghost use Rattle.jimple_grammar.specs.Grammar.{either};
 ghost use Rattle.jimple_grammar.specs.Reading.{reading, sees};
 ghost use Rattle.jimple_grammar.specs.Gives.{Gives};
 ghost use Rattle.jimple_grammar.specs.Forms.{this_given, param_given, caught_given, given_value, stored, identity, assign, store_field, store_element, local_stmt, store_static, call_stmt, jump, if_stmt, goto_stmt, case, cases, switch_stmt, returned, return_stmt, throw_stmt, nop_stmt, enter_stmt, exit_stmt, word_stmt, stmt};
 
 use crate::cursor::{Cursor, ParseStop, Reason};
-use crate::kind::Kind;
 use crate::lexeme::Lexeme;
 use crate::raw::{RawCase, RawGiven, RawImm, RawStmt, RawSwitch};
 use clean_base::Seq;
+use jimple_words::kind::Kind;
 use std::alloc::Global;
 
 impl<'a> Cursor<'a> {

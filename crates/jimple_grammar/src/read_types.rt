@@ -1,17 +1,17 @@
 // Reads names, types and signatures, a function for each form. The cursor stands below; the readers of operands, and of
 // bodies and members, above.
 ghost use Rattle.std.specs.Prelude.{◌≡◌, ◌+◌, ◌≤◌, List, [], ◌∷◌, length, IfOk};
-ghost use Rattle.jimple_grammar.specs.declared.kind.Kind.TheVariants as kinds;
+ghost use Rattle.jimple_words.specs.declared.kind.Kind.TheVariants as kinds;
 ghost use Rattle.jimple_grammar.specs.Grammar.{◌*>◌};
 ghost use Rattle.jimple_grammar.specs.Reading.{reading};
 ghost use Rattle.jimple_grammar.specs.Gives.{Gives};
 ghost use Rattle.jimple_grammar.specs.Forms.{sign, name, several_names, bracket_pair, brackets, ty, several_types, params, sig, field_sig};
 
 use crate::cursor::{Cursor, ParseStop};
-use crate::kind::Kind;
 use crate::lexeme::Lexeme;
 use crate::raw::{RawFieldSig, RawSig, RawType};
 use clean_base::Seq;
+use jimple_words::kind::Kind;
 use std::alloc::Global;
 
 impl<'a> Cursor<'a> {

@@ -1,13 +1,11 @@
 // The tokens of a text as the grammar sees them. Kinds by text stand below; the reader of a whole file above.
 ghost use Rattle.std.specs.Prelude.{◌≡◌, ◌<◌, ◌≤◌, ◌^◌, All, IfOk, length};
-ghost use Rattle.jimple_grammar.specs.Lexemes.{lexeme, lexemes};
-ghost use Rattle.jimple_grammar.specs.Kinds.{kind_of};
+ghost use Rattle.jimple_grammar.specs.Lexemes.{kind_of, lexeme, lexemes};
 
-use crate::kind::Kind;
-use crate::kinds::{keyword, sign};
 use crate::lexeme::Lexeme;
-use crate::parameter::word_kind;
 use jimple_lex::{Token, TokenKind};
+use jimple_words::kind::Kind;
+use jimple_words::{keyword_kind, sign_kind, word_kind};
 use std::alloc::{AllocError, Global};
 
 /// The kind of a token of that text.
@@ -16,10 +14,10 @@ pub fn kind_of(kind: TokenKind, text: &[u8]) -> Kind
 {
     match kind {
         TokenKind::Word => word_kind(text),
-        TokenKind::Keyword => keyword(text),
+        TokenKind::Keyword => keyword_kind(text),
         TokenKind::Number => Kind::Number,
         TokenKind::Text => Kind::Text,
-        TokenKind::Sign => sign(text),
+        TokenKind::Sign => sign_kind(text),
     }
 }
 

@@ -1,8 +1,10 @@
 -- What stands at the front of a text shows in its first bytes.
 use Rattle.std.proofs.Common.{◌≡◌, ◌⊎◌, inl, inr, ℕ, zero, suc, ◌+◌, Bool, true, false, cond, ◌||◌, ◌&&◌, ◌==◌, not, List, [], ◌∷◌, ◌++◌, drop, slice_index, sym, ap, subst, refl, ◌∙◌, arith, codes}
 use Rattle.std.specs.List.{list_any, list_all}
-use Rattle.jimple_lex.specs.Bytes.{is_blank, is_digit, begins_with, hash, minus, double_quote}
-use Rattle.jimple_lex.specs.Forms.{IsWord, segments, initializer, class_initializer, IsNumber, unsigned, negative, named, named_negative, IsString, is_sign, signs, IsComment, line, block}
+use Rattle.jimple_lex.specs.Bytes.{is_blank, begins_with, hash, minus, double_quote}
+use Rattle.jimple_words.specs.Bytes.{is_digit}
+use Rattle.jimple_lex.specs.Forms.{IsWord, segments, initializer, class_initializer, IsNumber, unsigned, negative, named, named_negative, IsString, is_sign, IsComment, line, block}
+use Rattle.jimple_words.specs.Kinds.{signs}
 use Rattle.jimple_lex.specs.Tokens.{Begins, begins_comment, IsSign}
 use Rattle.jimple_lex.specs.Front.{front, front_of_sign, begins_digit, begins_initializer}
 use Rattle.jimple_lex.specs.Signs.{is_single, is_pair, is_triple}

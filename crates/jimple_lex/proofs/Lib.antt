@@ -8,6 +8,5 @@ pub mod Signs
 pub mod Fronts
 pub mod LongestSign
 pub mod Pieces
-pub mod FirstLetters
 pub mod Reading
 pub mod Spans

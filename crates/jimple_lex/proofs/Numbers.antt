@@ -1,6 +1,7 @@
 -- Numbers: where they end.
 use Rattle.std.proofs.Common.{◌≡◌, ℕ, zero, suc, ◌+◌, ◌-◌, ◌<◌, ◌≤◌, true, false, List, [], ◌∷◌, ◌++◌, length, take, drop, slice_index, sym, ap, subst, refl, ◌∙◌, arith, drop-cons}
-use Rattle.jimple_lex.specs.Bytes.{is_digit, is_letter, goes_on}
+use Rattle.jimple_lex.specs.Bytes.{goes_on}
+use Rattle.jimple_words.specs.Bytes.{is_digit, is_letter}
 use Rattle.jimple_lex.specs.Forms.{IsNumber, unsigned, negative, named, named_negative, GoesOn}
 use Rattle.jimple_lex.specs.Tokens.{Longest}
 use Rattle.jimple_lex.specs.Ends.{Ends, EndsRun, part}

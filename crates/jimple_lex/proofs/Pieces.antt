@@ -2,7 +2,8 @@
 use Rattle.std.proofs.Common.{◌≡◌, inl, inr, ℕ, ◌<◌, Bool, true, false, cond, not, List, [], ◌∷◌, ◌++◌, length, sym, ap, subst, refl, ◌∙◌, arith, append_assoc, append-nil, codes, Some, None}
 use Rattle.std.specs.List.{AllByRecursion}
 use Rattle.jimple_lex.specs.Bytes.{line_feed}
-use Rattle.jimple_lex.specs.Forms.{IsWord, segments, initializer, class_initializer, IsNumber, unsigned, negative, named, named_negative, IsString, IsInside, empty, literal, escaped, IsComment, line, block, AtLineEnd, is_sign, is_keyword}
+use Rattle.jimple_lex.specs.Forms.{IsWord, segments, initializer, class_initializer, IsNumber, unsigned, negative, named, named_negative, IsString, IsInside, empty, literal, escaped, IsComment, line, block, AtLineEnd, is_sign}
+use Rattle.jimple_words.specs.Kinds.{is_keyword}
 use Rattle.jimple_lex.specs.Tokens.{Longest, IsToken}
 use Rattle.jimple_lex.specs.Front.{front, FormOf, kind_of}
 use Rattle.jimple_lex.specs.declared.front.Front.{Front}

@@ -1,6 +1,7 @@
 -- Segments and words by their places in the text.
 use Rattle.std.proofs.Common.{◌≡◌, inl, inr, ℕ, zero, suc, ◌+◌, ◌-◌, ◌<◌, ◌≤◌, Bool, true, false, ◌||◌, ◌==◌, List, [], ◌∷◌, ◌++◌, length, take, drop, slice_index, sym, ap, subst, refl, ◌∙◌, arith, append_assoc, drop-cons, length-drop, take_all, codes}
-use Rattle.jimple_lex.specs.Bytes.{begins_plain, is_plain, is_quotable, single_quote}
+use Rattle.jimple_lex.specs.Bytes.{is_quotable, single_quote}
+use Rattle.jimple_words.specs.Bytes.{begins_plain, is_plain}
 use Rattle.jimple_lex.specs.Forms.{IsSegment, IsJoined, IsWord, segments, initializer, class_initializer}
 use Rattle.jimple_lex.specs.Tokens.{Longest}
 use Rattle.jimple_lex.specs.Ends.{Ends, EndsLongest, EndsRun, part}

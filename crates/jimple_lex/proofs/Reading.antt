@@ -2,18 +2,17 @@
 use Rattle.std.proofs.Common.{◌≡◌, ℕ, suc, ◌+◌, ◌<◌, ◌≤◌, Bool, true, false, List, [], ◌∷◌, ◌++◌, length, drop, slice_index, sym, ap, subst, refl, ◌∙◌, arith, append_assoc, append-nil, length-append, Some, None}
 use Rattle.std.proofs.lemmas.List.{drop_all}
 use Rattle.jimple_lex.specs.Bytes.{is_blank}
-use Rattle.jimple_lex.specs.Forms.{is_keyword}
+use Rattle.jimple_words.specs.Kinds.{is_keyword}
 use Rattle.jimple_lex.specs.Lexed.{Lexed, ends, blank, comment, token}
-use Rattle.jimple_lex.specs.Faults.{FaultKind, bad_byte, open_text, FirstFault, bad, unended, past_blank, past_comment, past_token, Stuck, opens, IsLexical}
+use Rattle.jimple_lex.specs.Faults.{FaultKind, bad_byte, open_text, FirstFault, bad, unended, past_blank, past_comment, past_token, Stuck, opens, IsFault, IsLexical, at_byte, at_open}
 use Rattle.jimple_lex.specs.Ends.{Ends, part}
-use Rattle.jimple_lex.specs.Front.{front, FormOf, kind_of, FaultAt}
+use Rattle.jimple_lex.specs.Front.{front, FormOf, kind_of, FaultAt, no_begin, no_end}
 use Rattle.jimple_lex.specs.declared.front.Front.{Front}
 use Rattle.jimple_lex.specs.declared.front.Front.TheVariants as fronts
 use Rattle.jimple_lex.specs.declared.token.Token.{Token}
 use Rattle.jimple_lex.specs.declared.token.TokenKind.{TokenKind}
 use Rattle.jimple_lex.specs.declared.token.TokenKind.TheVariants as kinds
 use Rattle.clean_base.specs.declared.fault.InputFault.{InputFault}
-use Rattle.clean_base.specs.declared.fault.InputFault.TheVariants.{BadByte, OpenText}
 use Rattle.jimple_lex.proofs.Parts.{parts, part_length, ends_some}
 use Rattle.jimple_lex.proofs.Places.{front_is, part_one}
 use Rattle.jimple_lex.proofs.Fronts.{not_true}
@@ -225,10 +224,17 @@ module _ (bytes : List ℕ) (at : ℕ) (done : List Token) (r : Read bytes at do
     by_view (here s e h) = (one_kind (drop at bytes) other kind h is_here, e)
     by_view (past g text rest split a q) = absurd (no_form g text rest split a)
 
+  there : (file : ℕ) (kind : FaultKind) (named place : ℕ) → IsHere (drop at bytes) kind → FirstFault at (drop at bytes) kind at → named ≡ file → place ≡ at → IsFault file bytes kind named place
+  there file kind named place is_here begun in_file same = record {
+    in_file = in_file;
+    first = subst (FirstFault 0 bytes kind) (sym same) (r.first kind at begun);
+    no_other = λ other place p. let o = no_other kind is_here other place p in (o.0, o.1 ∙ sym same);
+    no_tokens = no_tokens;
+  }
+
   pub faulted : (file : ℕ) (fault : InputFault) → FaultAt file (drop at bytes) at fault → IsLexical file bytes fault
-  faulted file (BadByte named place) a = record { in_file = a.0; first = subst (FirstFault 0 bytes bad_byte) (sym a.1) (r.first bad_byte at (bad stuck a.2)); no_other = λ other place p. let o = no_other bad_byte a.2 other place p in (o.0, o.1 ∙ sym a.1); no_tokens = no_tokens }
-  faulted file (OpenText named place) a = record { in_file = a.0; first = subst (FirstFault 0 bytes open_text) (sym a.1) (r.first open_text at (unended stuck a.2)); no_other = λ other place p. let o = no_other open_text a.2 other place p in (o.0, o.1 ∙ sym a.1); no_tokens = no_tokens }
-  faulted file _ a = absurd a
+  faulted file _ (no_begin named place shut) = at_byte (there file bad_byte _ _ shut (bad stuck shut) named place)
+  faulted file _ (no_end named place opened) = at_open (there file open_text _ _ opened (unended stuck opened) named place)
 
 pub blank_there : (bytes : List ℕ) (at : ℕ) → at < length bytes → is_blank (slice_index bytes at) ≡ true → Ends (FormOf fronts.Blank) bytes at (at + 1)
 blank_there bytes at below b = let one : at + 1 ≡ suc at = omega arith in

@@ -1,6 +1,7 @@
 -- Segments and words: where they end.
 use Rattle.std.proofs.Common.{◌≡◌, ◌⊎◌, inl, inr, ℕ, zero, suc, ◌+◌, ◌-◌, ◌<◌, ◌≤◌, Bool, true, false, ◌||◌, ◌==◌, List, [], ◌∷◌, ◌++◌, length, drop, slice_index, sym, ap, subst, refl, ◌∙◌, arith, append_assoc, append-nil, length-append, codes}
-use Rattle.jimple_lex.specs.Bytes.{begins_plain, is_plain, is_quotable, single_quote, dot}
+use Rattle.jimple_lex.specs.Bytes.{is_quotable, single_quote, dot}
+use Rattle.jimple_words.specs.Bytes.{begins_plain, is_plain}
 use Rattle.jimple_lex.specs.Forms.{IsSegment, plain, quoted, IsJoined, last, joined, IsWord, segments, initializer, class_initializer}
 use Rattle.jimple_lex.specs.Tokens.{Longest}
 use Rattle.jimple_lex.specs.Ends.{EndsLongest, part}

@@ -1,6 +1,7 @@
 -- Signs: the longest there.
 use Rattle.std.proofs.Common.{◌≡◌, ℕ, Bool, true, false, ◌||◌, ◌&&◌, List, [], ◌∷◌, refl, arith}
-use Rattle.jimple_lex.specs.Forms.{is_sign, signs}
+use Rattle.jimple_lex.specs.Forms.{is_sign}
+use Rattle.jimple_words.specs.Kinds.{signs}
 use Rattle.jimple_lex.specs.Signs.{is_single, is_pair, is_triple}
 
 and_true : (b : Bool) → (b && true) ≡ b

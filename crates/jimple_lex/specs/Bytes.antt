@@ -1,5 +1,6 @@
--- Kinds of bytes.
-use Rattle.std.specs.Prelude.{ℕ, Bool, true, false, not, ◌&&◌, ◌||◌, ◌==◌, nat_le, List, [], ◌∷◌}
+-- Kinds of bytes outside of words; those of words stand below.
+use Rattle.std.specs.Prelude.{ℕ, Bool, true, false, not, ◌&&◌, ◌||◌, ◌==◌, List, [], ◌∷◌}
+use Rattle.jimple_words.specs.Bytes.{is_digit, is_letter}
 
 abbrev pub line_feed : ℕ
 line_feed = 10
@@ -25,21 +26,6 @@ backslash = 92
 -- space, tab, carriage return and line feed
 abbrev pub is_blank : ℕ → Bool
 is_blank c = (c == 32) || (c == 9) || (c == 13) || (c == line_feed)
-
-abbrev pub is_digit : ℕ → Bool
-is_digit c = nat_le 48 c && nat_le c 57
-
--- the 52 of ASCII
-abbrev pub is_letter : ℕ → Bool
-is_letter c = (nat_le 65 c && nat_le c 90) || (nat_le 97 c && nat_le c 122)
-
--- what a plain segment of a word begins with: a letter, `_`, `$`, `\` and what isn't ASCII
-abbrev pub begins_plain : ℕ → Bool
-begins_plain c = is_letter c || (c == 95) || (c == 36) || (c == backslash) || nat_le 128 c
-
--- and what it goes on with
-abbrev pub is_plain : ℕ → Bool
-is_plain c = begins_plain c || is_digit c || (c == hash)
 
 -- what stands between the quotes of a quoted segment
 abbrev pub is_quotable : ℕ → Bool

@@ -42,10 +42,10 @@ pub record IsFault (file : ℕ) (bytes : List ℕ) (kind : FaultKind) (named at 
   pub no_other : (other : FaultKind) (place : ℕ) → FirstFault 0 bytes other place → (other ≡ kind) × (place ≡ at)
   pub no_tokens : (us : List Token) → Lexed 0 bytes us → ⊥
 
-abbrev pub IsLexical : ℕ → List ℕ → InputFault → Type 0
-IsLexical file bytes (BadByte named at) = IsFault file bytes bad_byte named at
-IsLexical file bytes (OpenText named at) = IsFault file bytes open_text named at
-IsLexical file bytes _ = ⊥
+-- the first fault of the text, as a fault of input
+pub data IsLexical (file : ℕ) (bytes : List ℕ) : InputFault → Type 0 where
+  at_byte : {named at : ℕ} → IsFault file bytes bad_byte named at → IsLexical file bytes (BadByte named at)
+  at_open : {named at : ℕ} → IsFault file bytes open_text named at → IsLexical file bytes (OpenText named at)
 
 -- why there are no tokens: want of memory, or the first fault of the text
 abbrev pub Refused : ℕ → List ℕ → Stop → Type 0

@@ -1,8 +1,9 @@
 -- The forms of words, numbers, strings, signs and comments (docs/FORMATS.md, "Tokens"). The kinds of bytes stand below, tokens above.
 use Rattle.std.specs.Prelude.{◌≡◌, ℕ, Bool, true, List, [], ◌∷◌, ◌++◌, codes}
-use Rattle.std.specs.List.{AllByRecursion, list_any}
-use Rattle.std.specs.Str.{bytes_eq}
-use Rattle.jimple_lex.specs.Bytes.{line_feed, double_quote, hash, single_quote, minus, dot, backslash, is_digit, is_letter, begins_plain, is_plain, is_quotable, is_literal, goes_on}
+use Rattle.std.specs.List.{AllByRecursion}
+use Rattle.jimple_lex.specs.Bytes.{line_feed, double_quote, hash, single_quote, minus, dot, backslash, is_quotable, is_literal, goes_on}
+use Rattle.jimple_words.specs.Bytes.{is_digit, is_letter, begins_plain, is_plain}
+use Rattle.jimple_words.specs.Kinds.{is_in, signs}
 
 -- a segment of a word: plain, or in quotes
 pub data IsSegment : List ℕ → Type 0 where
@@ -45,28 +46,8 @@ pub record IsString (text : List ℕ) : Type 0 where
   pub between_quotes : text ≡ double_quote ∷ (inside ++ double_quote ∷ [])
   pub unbroken : IsInside inside
 
-abbrev pub is_one_of : List (List ℕ) → List ℕ → Bool
-is_one_of words text = list_any (bytes_eq text) words
-
-unfoldable pub signs : List (List ℕ)
-signs = codes "{" ∷ codes "}" ∷ codes "(" ∷ codes ")" ∷ codes "[" ∷ codes "]" ∷ codes "," ∷ codes ";" ∷ codes ":" ∷ codes ":=" ∷ codes "." ∷ codes "@"
-    ∷ codes "=" ∷ codes "==" ∷ codes "!=" ∷ codes "<" ∷ codes "<=" ∷ codes ">" ∷ codes ">=" ∷ codes "<<" ∷ codes ">>" ∷ codes ">>>"
-    ∷ codes "+" ∷ codes "-" ∷ codes "*" ∷ codes "/" ∷ codes "%" ∷ codes "&" ∷ codes "|" ∷ codes "^" ∷ []
-
 unfoldable pub is_sign : List ℕ → Bool
-is_sign = is_one_of signs
-
-unfoldable pub keywords : List (List ℕ)
-keywords = codes "abstract" ∷ codes "final" ∷ codes "native" ∷ codes "public" ∷ codes "protected" ∷ codes "private" ∷ codes "static" ∷ codes "synchronized"
-    ∷ codes "transient" ∷ codes "volatile" ∷ codes "strictfp" ∷ codes "enum" ∷ codes "annotation" ∷ codes "class" ∷ codes "interface" ∷ codes "void" ∷ codes "boolean"
-    ∷ codes "byte" ∷ codes "short" ∷ codes "char" ∷ codes "int" ∷ codes "long" ∷ codes "float" ∷ codes "double" ∷ codes "null_type" ∷ codes "unknown" ∷ codes "extends"
-    ∷ codes "implements" ∷ codes "breakpoint" ∷ codes "case" ∷ codes "catch" ∷ codes "cmp" ∷ codes "cmpg" ∷ codes "cmpl" ∷ codes "default" ∷ codes "entermonitor"
-    ∷ codes "exitmonitor" ∷ codes "from" ∷ codes "goto" ∷ codes "if" ∷ codes "instanceof" ∷ codes "interfaceinvoke" ∷ codes "lengthof" ∷ codes "lookupswitch" ∷ codes "neg"
-    ∷ codes "new" ∷ codes "newarray" ∷ codes "newmultiarray" ∷ codes "nop" ∷ codes "null" ∷ codes "ret" ∷ codes "return" ∷ codes "specialinvoke" ∷ codes "staticinvoke"
-    ∷ codes "dynamicinvoke" ∷ codes "tableswitch" ∷ codes "throw" ∷ codes "throws" ∷ codes "to" ∷ codes "virtualinvoke" ∷ codes "with" ∷ []
-
-unfoldable pub is_keyword : List ℕ → Bool
-is_keyword = is_one_of keywords
+is_sign text = is_in signs text
 
 -- the end of a line, or of the text
 abbrev pub AtLineEnd : List ℕ → Type 0

@@ -1,7 +1,9 @@
 -- What may stand at the front of a text, as its first bytes show. The helpers below `lex` cite this file, and no public clause does.
 use Rattle.std.specs.Prelude.{◌≡◌, ◌⊎◌, ℕ, Bool, true, false, cond, ◌||◌, ◌&&◌, ◌==◌, List, [], ◌∷◌, codes, Option, Some, None}
-use Rattle.jimple_lex.specs.Bytes.{is_blank, begins_plain, is_digit, begins_with, single_quote, double_quote, hash, minus}
-use Rattle.jimple_lex.specs.Forms.{IsWord, IsNumber, IsString, IsComment, is_keyword}
+use Rattle.jimple_lex.specs.Bytes.{is_blank, begins_with, single_quote, double_quote, hash, minus}
+use Rattle.jimple_words.specs.Bytes.{begins_plain, is_digit}
+use Rattle.jimple_lex.specs.Forms.{IsWord, IsNumber, IsString, IsComment}
+use Rattle.jimple_words.specs.Kinds.{is_keyword}
 use Rattle.jimple_lex.specs.Tokens.{begins_comment, Longest, IsSign}
 use Rattle.jimple_lex.specs.Faults.{opens}
 use Rattle.jimple_lex.specs.declared.token.TokenKind.{TokenKind}
@@ -49,7 +51,6 @@ kind_of fronts.Text text = Some kinds.Text
 kind_of fronts.Sign text = Some kinds.Sign
 
 -- the fault of a text that goes on where nothing stands
-abbrev pub FaultAt : ℕ → List ℕ → ℕ → InputFault → Type 0
-FaultAt file whole at (BadByte named place) = (named ≡ file) × (place ≡ at) × (opens whole ≡ false)
-FaultAt file whole at (OpenText named place) = (named ≡ file) × (place ≡ at) × (opens whole ≡ true)
-FaultAt file whole at _ = ⊥
+pub data FaultAt (file : ℕ) (whole : List ℕ) (at : ℕ) : InputFault → Type 0 where
+  no_begin : {named place : ℕ} → named ≡ file → place ≡ at → opens whole ≡ false → FaultAt file whole at (BadByte named place)
+  no_end : {named place : ℕ} → named ≡ file → place ≡ at → opens whole ≡ true → FaultAt file whole at (OpenText named place)

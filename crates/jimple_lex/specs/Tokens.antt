@@ -1,7 +1,8 @@
 -- What a token of each kind is, and where it ends (docs/FORMATS.md, "Tokens"). The forms stand below, the lists of tokens above.
 use Rattle.std.specs.Prelude.{◌≡◌, ℕ, Bool, true, false, ◌||◌, List, [], ◌++◌, codes}
 use Rattle.jimple_lex.specs.Bytes.{begins_with}
-use Rattle.jimple_lex.specs.Forms.{IsWord, IsNumber, IsString, is_sign, is_keyword}
+use Rattle.jimple_lex.specs.Forms.{IsWord, IsNumber, IsString, is_sign}
+use Rattle.jimple_words.specs.Kinds.{is_keyword}
 use Rattle.jimple_lex.specs.declared.token.TokenKind.{TokenKind}
 use Rattle.jimple_lex.specs.declared.token.TokenKind.TheVariants.{Word, Keyword, Number, Text, Sign}
 

@@ -1,35 +1,14 @@
-// Kinds of bytes. Everything else in this crate stands above.
+// Kinds of bytes outside of words. Everything else in this crate stands above.
 ghost use Rattle.std.specs.Prelude.{◌≡◌, ◌+◌, ◌≤◌, ◌<◌, length, drop, slice_index};
-ghost use Rattle.jimple_lex.specs.Bytes.{is_blank, is_digit, is_letter, begins_plain, is_plain, is_quotable, goes_on, begins_with};
+ghost use Rattle.jimple_lex.specs.Bytes.{is_blank, is_quotable, goes_on};
+ghost use Rattle.jimple_words.specs.Bytes.{is_digit, is_letter};
+
+use jimple_words::bytes::{is_digit, is_letter};
 
 pub fn is_blank(c: u8) -> bool
     ensures { result ≡ is_blank c }
 {
     c == b' ' || c == b'\t' || c == b'\r' || c == b'\n'
-}
-
-pub fn is_digit(c: u8) -> bool
-    ensures { result ≡ is_digit c }
-{
-    c >= b'0' && c <= b'9'
-}
-
-pub fn is_letter(c: u8) -> bool
-    ensures { result ≡ is_letter c }
-{
-    (c >= b'A' && c <= b'Z') || (c >= b'a' && c <= b'z')
-}
-
-pub fn begins_plain(c: u8) -> bool
-    ensures { result ≡ begins_plain c }
-{
-    is_letter(c) || c == b'_' || c == b'$' || c == b'\\' || c >= 128
-}
-
-pub fn is_plain(c: u8) -> bool
-    ensures { result ≡ is_plain c }
-{
-    begins_plain(c) || is_digit(c) || c == b'#'
 }
 
 pub fn is_quotable(c: u8) -> bool

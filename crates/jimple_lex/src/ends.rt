@@ -8,8 +8,9 @@ ghost use Rattle.jimple_lex.specs.Front.{front};
 ghost use Rattle.jimple_lex.specs.Signs.{is_single, is_pair, sign_length};
 ghost use Rattle.jimple_lex.specs.declared.front.Front.TheVariants as fronts;
 
-use crate::bytes::{byte_at, is_digit, is_letter};
+use crate::bytes::byte_at;
 use crate::runs::{inside_end, letters_end, line_end, tail_end};
+use jimple_words::bytes::{is_digit, is_letter};
 
 // The end of a number in digits that begins with `-`, or its place where no digit follows.
 fn negative_end(bytes: &[u8], at: usize) -> usize

@@ -1,14 +1,16 @@
 // What begins at the front of a text, by its first bytes. The lexer stands above.
 ghost use Rattle.std.specs.Prelude.{◌≡◌, ◌<◌, ◌==◌, ◌||◌, ◌&&◌, suc, length, drop, slice_index};
-ghost use Rattle.jimple_lex.specs.Bytes.{is_digit, begins_plain, single_quote, hash, minus};
+ghost use Rattle.jimple_lex.specs.Bytes.{single_quote, hash, minus};
+ghost use Rattle.jimple_words.specs.Bytes.{is_digit, begins_plain};
 ghost use Rattle.jimple_lex.specs.Front.{front, front_of_sign, begins_initializer, begins_digit};
 ghost use Rattle.jimple_lex.specs.Tokens.{begins_comment};
 ghost use Rattle.jimple_lex.specs.Faults.{opens};
 
-use crate::bytes::{begins_plain, byte_at, is_blank, is_digit};
+use crate::bytes::{byte_at, is_blank};
+use jimple_words::bytes::{begins_plain, is_digit};
 
 /// What may stand at a place, as its first bytes show.
-#[derive(Clone, Copy, Debug, PartialEq, Eq)]
+#[derive(Clone, Copy)]
 pub enum Front {
     Blank,
     Comment,

@@ -8,10 +8,10 @@ ghost use Rattle.jimple_lex.specs.Ends.{Ends};
 
 use crate::ends::{comment_end, number_end, sign_end, text_end};
 use crate::front::{Front, front_at, opens_at};
-use crate::keywords::is_keyword;
 use crate::words::word_end;
 use crate::{Token, TokenKind};
 use clean_base::{InputFault, Stop};
+use jimple_words::is_keyword;
 use std::alloc::Global;
 
 // Where the piece ends that stands there, or its place where none does.

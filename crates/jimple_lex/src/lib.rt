@@ -4,11 +4,8 @@
 mod bytes;
 mod ends;
 mod front;
-mod keywords;
 pub mod lexer;
 mod runs;
-#[cfg(test)]
-mod tests;
 pub mod token;
 mod words;
 

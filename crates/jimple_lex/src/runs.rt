@@ -1,9 +1,11 @@
 // Runs of bytes of one kind: where each ends. The kinds of bytes stand below, the ends of tokens above.
 ghost use Rattle.std.specs.Prelude.{◌≡◌, ◌≤◌, ◌<◌, ◌-◌, not, ◌==◌, ◌&&◌, suc, length, slice_index};
-ghost use Rattle.jimple_lex.specs.Bytes.{is_letter, is_plain, is_quotable, goes_on, line_feed};
+ghost use Rattle.jimple_lex.specs.Bytes.{is_quotable, goes_on, line_feed};
+ghost use Rattle.jimple_words.specs.Bytes.{is_letter, is_plain};
 ghost use Rattle.jimple_lex.specs.Ends.{EndsRun};
 
-use crate::bytes::{byte_at, goes_on, is_letter, is_plain, is_quotable};
+use crate::bytes::{byte_at, goes_on, is_quotable};
+use jimple_words::bytes::{is_letter, is_plain};
 
 /// The end of the bytes of a plain segment.
 pub fn plain_end(bytes: &[u8], from: usize) -> usize

@@ -6,8 +6,9 @@ ghost use Rattle.jimple_lex.specs.Tokens.{Longest};
 ghost use Rattle.jimple_lex.specs.Ends.{Ends, EndsLongest, part};
 ghost use Rattle.jimple_lex.specs.Front.{IsInitializer};
 
-use crate::bytes::{begins_plain, byte_at};
+use crate::bytes::byte_at;
 use crate::runs::{plain_end, quotable_end};
+use jimple_words::bytes::begins_plain;
 
 // The end of a segment in quotes, or its place where it doesn't end.
 fn quoted_end(bytes: &[u8], at: usize) -> usize

@@ -2,6 +2,7 @@
 use Rattle.std.proofs.Common.{◌≡◌, ℕ, suc, ◌<◌, ◌≤◌, ◌^◌, List, [], ◌∷◌, ◌++◌, length, map, flat_map, None, refl, sym, ◌∙◌, ap, subst, arith}
 use Rattle.std.proofs.lemmas.List.{length-append, length-map, map-append}
 use Rattle.std.proofs.lemmas.List.Elements.{filter_map-append}
+use Rattle.clean_base.specs.Limits.{most_locals}
 use Rattle.jimple_tree.specs.declared.tree.Catch.{Catch}
 use Rattle.jimple_tree.specs.declared.tree.Local.{Local}
 use Rattle.jimple_tree.specs.declared.tree.Stmt.{Stmt}
@@ -76,7 +77,7 @@ module _ (bytes : List ℕ) where
             let k = few_labels bytes 1 b.code.rest in
             omega (arith, few, e, l, m, k)
 
-        pub locals_few : length ls ≤ 65535
+        pub locals_few : length ls ≤ most_locals
         locals_few =
             let e = sym (length-map ls (λ (l : Local). l.name)) ∙ ap (λ (s : Scope). length s.locals) same ∙ length-map (declared b) (name_of bytes) in
             let few = given.2.locals in

@@ -1,19 +1,19 @@
 -- The number in the word of a parameter is at most 254.
-use Rattle.std.proofs.Common.{◌≡◌, ℕ, zero, suc, ◌+◌, ◌-◌, ◌*◌, ◌<◌, ◌≤◌, nat_le, Bool, true, false, not, ◌==◌, List, [], ◌∷◌, length, drop, map, refl, sym, ◌∙◌, subst, arith, rules}
+use Rattle.std.proofs.Common.{◌≡◌, ℕ, zero, suc, ◌-◌, ◌<◌, ◌≤◌, nat_le, Bool, true, false, not, ◌==◌, List, [], ◌∷◌, length, drop, map, Some, refl, sym, ◌∙◌, subst, arith, rules}
 use Rattle.std.specs.Prelude.{Contains}
 use Rattle.std.specs.List.{list_all}
 use Rattle.std.specs.Str.{bytes_eq}
 use Rattle.std.proofs.Math.ListN.{get_or}
-use Rattle.std.proofs.lemmas.List.{drop_more}
 use Rattle.jimple_lex.specs.declared.token.Token.{Token}
 use Rattle.jimple_lex.specs.declared.token.TokenKind.{TokenKind}
 use Rattle.jimple_lex.specs.declared.token.TokenKind.TheVariants as tokens
-use Rattle.jimple_grammar.specs.declared.kind.Kind.{Kind}
+use Rattle.jimple_words.specs.declared.kind.Kind.{Kind}
 use Rattle.jimple_grammar.specs.declared.lexeme.Lexeme.{Lexeme}
 use Rattle.jimple_grammar.specs.declared.raw.RawGiven.TheVariants as raw_given
 use Rattle.jimple_grammar.specs.declared.raw.RawType.{RawType}
-use Rattle.jimple_grammar.specs.Kind.{number}
-use Rattle.jimple_grammar.specs.Kinds.{Texts, kind_in, keywords, signs, further, read_digits, names_parameter, kind_of}
+use Rattle.jimple_words.specs.Kind.{number}
+use Rattle.jimple_words.specs.Kinds.{Texts, kind_in, keywords, signs, further, read_digits, names_parameter, parameter_number}
+use Rattle.jimple_grammar.specs.Lexemes.{kind_of}
 use Rattle.jimple_grammar.specs.Lexemes.{lexeme, lexemes}
 use Rattle.jimple_grammar.specs.Fits.{GivenFits}
 use Rattle.jimple_names.specs.Texts.{text}
@@ -21,17 +21,9 @@ use Rattle.jimple_names.specs.Tree.{parameter_of}
 use Rattle.jimple_names.specs.Resolving.{Given}
 use Rattle.std.proofs.lemmas.Bool.{and_parts}
 
--- more digits never write less
-pub grows : (n : ℕ) (ds : List ℕ) → n ≤ read_digits n ds
-grows n [] = omega arith
-grows n (d ∷ ds) = let more = grows (n * 10 + (d - 48)) ds in omega (arith, more)
-
--- a front of digits that write little writes little
-pub fits : (digits : List ℕ) (n i : ℕ) → i < length digits → read_digits 0 digits ≡ read_digits n (drop i digits) → read_digits 0 digits ≤ 254 → n * 10 + (get_or digits i 0 - 48) ≤ 254
-fits digits n i less rest at_most =
-    let is : read_digits 0 digits ≡ read_digits (n * 10 + (get_or digits i 0 - 48)) (drop (i + 1) digits) = rest ∙ rw (drop_more digits i 0 less) refl in
-    let more = grows (n * 10 + (get_or digits i 0 - 48)) (drop (i + 1) digits) in
-    omega (arith, more, is, at_most)
+-- what is at most 254 is the number
+pub low_number : (digits : List ℕ) → read_digits 0 digits ≤ 254 → parameter_number digits ≡ Some (read_digits 0 digits)
+low_number digits low = let few : nat_le (read_digits 0 digits) 254 ≡ true = search (rules, arith, low) in rw few refl
 
 -- no parameter among these texts
 abbrev no_parameter : Texts → Bool

@@ -9,13 +9,14 @@ use Rattle.jimple_tree.specs.WellFormed.{LocalFits, BaseFits}
 use Rattle.jimple_lex.specs.declared.token.Token.{Token}
 use Rattle.jimple_lex.specs.declared.token.TokenKind.{TokenKind}
 use Rattle.jimple_lex.specs.declared.token.TokenKind.TheVariants as tokens
-use Rattle.jimple_grammar.specs.declared.kind.Kind.{Kind}
-use Rattle.jimple_grammar.specs.declared.kind.Kind.TheVariants as kinds
+use Rattle.jimple_words.specs.declared.kind.Kind.{Kind}
+use Rattle.jimple_words.specs.declared.kind.Kind.TheVariants as kinds
 use Rattle.jimple_grammar.specs.declared.lexeme.Lexeme.{Lexeme}
-use Rattle.jimple_grammar.specs.Kind.{has}
-use Rattle.jimple_grammar.specs.Kinds.{Texts, kind_in, kind_of, word_kind, parameter_kind, names_parameter, read_digits, keywords, signs, further}
+use Rattle.jimple_words.specs.Kind.{has}
+use Rattle.jimple_words.specs.Kinds.{Texts, kind_in, word_kind, parameter_kind, names_parameter, read_digits, keywords, signs, further}
+use Rattle.jimple_grammar.specs.Lexemes.{kind_of}
 use Rattle.jimple_grammar.specs.Lexemes.{lexeme, lexemes}
-use Rattle.jimple_grammar.specs.Forms.{based_calls}
+use Rattle.jimple_words.specs.Sets.{based_calls}
 use Rattle.jimple_names.specs.Texts.{text}
 use Rattle.jimple_names.specs.Tree.{call_of, parameter_of}
 

@@ -27,8 +27,8 @@ use Rattle.jimple_tree.specs.declared.tree.Rhs.{Rhs}
 use Rattle.jimple_tree.specs.declared.tree.Rhs.TheVariants as rhs
 use Rattle.jimple_tree.specs.declared.tree.Stmt.{Stmt}
 use Rattle.jimple_tree.specs.declared.tree.Stmt.TheVariants as stmt
-use Rattle.jimple_grammar.specs.declared.kind.Kind.{Kind}
-use Rattle.jimple_grammar.specs.declared.kind.Kind.TheVariants as kinds
+use Rattle.jimple_words.specs.declared.kind.Kind.{Kind}
+use Rattle.jimple_words.specs.declared.kind.Kind.TheVariants as kinds
 use Rattle.jimple_grammar.specs.declared.lexeme.Lexeme.{Lexeme}
 use Rattle.jimple_grammar.specs.declared.raw.RawBody.{RawBody}
 use Rattle.jimple_grammar.specs.declared.raw.RawCall.{RawCall}
@@ -48,8 +48,8 @@ use Rattle.jimple_grammar.specs.declared.raw.RawRhs.{RawRhs}
 use Rattle.jimple_grammar.specs.declared.raw.RawRhs.TheVariants as raw_rhs
 use Rattle.jimple_grammar.specs.declared.raw.RawStmt.{RawStmt}
 use Rattle.jimple_grammar.specs.declared.raw.RawStmt.TheVariants as raw_stmt
-use Rattle.jimple_grammar.specs.Kind.{number}
-use Rattle.jimple_grammar.specs.Kinds.{read_digits}
+use Rattle.jimple_words.specs.Kind.{number}
+use Rattle.jimple_words.specs.Kinds.{read_digits}
 use Rattle.jimple_names.specs.Texts.{text, name_of, type_of, sig_of, field_sig_of}
 use Rattle.jimple_names.specs.Scope.{Scope, items_of, stmts_of, scope_of, local_at, label_at, or_first}
 

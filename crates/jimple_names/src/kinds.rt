@@ -2,8 +2,8 @@
 ghost use Rattle.std.specs.Prelude.{◌≡◌};
 ghost use Rattle.jimple_names.specs.Tree.{call_of, cond_of, op_of, is_table};
 
-use jimple_grammar::kind::Kind;
 use jimple_tree::{BinOp, Cond, InvokeKind};
+use jimple_words::kind::Kind;
 
 pub fn call_of(kind: Kind) -> InvokeKind
     ensures { result ≡ call_of kind }

@@ -11,8 +11,6 @@ mod parameter;
 mod resolver;
 mod scope;
 mod stop;
-#[cfg(test)]
-mod tests;
 mod texts;
 
 pub use classes::name_classes;

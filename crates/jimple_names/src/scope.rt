@@ -5,6 +5,7 @@ ghost use Rattle.std.specs.Cmp.Lexicographic.{pointwise};
 ghost use Rattle.std.specs.HashMap.{get};
 ghost use Rattle.std.specs.List.{position, position_from};
 ghost use Rattle.std.specs.Str.{bytes_eq};
+ghost use Rattle.clean_base.specs.Limits.{most_locals};
 ghost use Rattle.jimple_tree.specs.declared.tree.Local.{Local};
 ghost use Rattle.jimple_names.specs.declared.scope.Label.{Label};
 ghost use Rattle.jimple_names.specs.Texts.{unquoted};
@@ -30,7 +31,7 @@ pub struct Names<'a> {
     labels: &'a [Label],
     local_numbers: HashMap<&'a [u8], u32>,
     label_numbers: HashMap<&'a [u8], u32>,
-    ghost few: { length locals.now ≤ 65535 },
+    ghost few: { length locals.now ≤ most_locals },
     ghost local_numbered: { (q : Bor (List ℕ)) → get (λ x y. pointwise nat_eq x.now y.now) local_numbers q ≡ position_from (λ (l : Local). bytes_eq l.name q.now) 0 locals.now },
     ghost label_numbered: { (q : Bor (List ℕ)) → get (λ x y. pointwise nat_eq x.now y.now) label_numbers q ≡ position_from (λ (l : Label). bytes_eq l.name q.now) 0 labels.now },
 }
@@ -91,7 +92,7 @@ impl<'a> Names<'a> {
         locals: &'a [Local],
         labels: &'a [Label],
     ) -> Result<Names<'a>, AllocError>
-        requires locals { length locals.now ≤ 65535 }
+        requires locals { length locals.now ≤ most_locals }
         requires labels { length labels.now ≤ 2 ^ 32 }
         ensures locals { IfOk result (λ s. s.locals.now ≡ locals.now) }
         ensures labels { IfOk result (λ s. s.labels.now ≡ labels.now) }

@@ -29,12 +29,19 @@ pub fn is_quoted(word: &[u8]) -> bool
     word.iter().any(|c| *c == b'\'')
 }
 
+/// The bytes once more, as a name of their own.
+fn copy(alloc: Global, bytes: &[u8]) -> Result<Name, AllocError>
+    ensures { IfOk result (λ n. n ≡ bytes.now) }
+{
+    Ok(Name::from_vec(Vec::from_slice(alloc, bytes)?))
+}
+
 /// The name of a word.
 pub fn unquoted(alloc: Global, word: &[u8]) -> Result<Name, AllocError>
     ensures { IfOk result (λ n. n ≡ unquoted word.now) }
 {
     if !is_quoted(word) {
-        return Ok(Name::from_vec(Vec::from_slice(alloc, word)?));
+        return copy(alloc, word);
     }
     let mut name = Vec::new(alloc);
     for c in word {
@@ -65,7 +72,7 @@ pub fn names(alloc: Global, bytes: &[u8], tokens: &[Lexeme]) -> Result<Seq<Name>
 pub fn literal(alloc: Global, bytes: &[u8], token: Lexeme) -> Result<Name, AllocError>
     ensures { IfOk result (λ n. n ≡ text bytes.now token) }
 {
-    Ok(Name::from_vec(Vec::from_slice(alloc, text(bytes, token))?))
+    copy(alloc, text(bytes, token))
 }
 
 pub fn type_of(alloc: Global, bytes: &[u8], ty: RawType) -> Result<JType, AllocError>

@@ -5,7 +5,7 @@ use Rattle.std.specs.Fmt.{digits, digits_onto, digit_glyph}
 use Rattle.std.proofs.Math.Nat.{mod-lt}
 use Rattle.std.proofs.lemmas.Bool.{eqb-true}
 use Rattle.jimple_tree.specs.Labels.{label_text}
-use Rattle.jimple_grammar.specs.Kinds.{read_digits}
+use Rattle.jimple_words.specs.Kinds.{read_digits}
 use Rattle.std.proofs.Common.{drop}
 
 -- ten as often multiplied

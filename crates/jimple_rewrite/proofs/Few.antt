@@ -1,16 +1,20 @@
 -- A text has no more tokens than bytes, and a body has fewer statements than its text has tokens.
-use Rattle.std.proofs.Common.{◌≡◌, ℕ, suc, ◌<◌, ◌≤◌, true, List, [], ◌∷◌, ◌++◌, length, map, refl, ap, ◌∙◌, arith}
-use Rattle.std.proofs.lemmas.List.{length-append}
-use Rattle.jimple_lex.specs.Forms.{IsSegment, plain, quoted, IsJoined, last, joined, IsWord, segments, initializer, class_initializer, IsNumber, unsigned, negative, named, named_negative, is_sign, signs}
+use Rattle.std.proofs.Common.{◌≡◌, ℕ, suc, ◌^◌, ◌<◌, ◌≤◌, true, List, [], ◌∷◌, ◌++◌, length, map, refl, ap, ◌∙◌, arith}
+use Rattle.std.proofs.lemmas.List.{length-append, length-map}
+use Rattle.jimple_lex.specs.Forms.{IsSegment, plain, quoted, IsJoined, last, joined, IsWord, segments, initializer, class_initializer, IsNumber, unsigned, negative, named, named_negative, is_sign}
+use Rattle.jimple_words.specs.Kinds.{signs}
 use Rattle.jimple_lex.specs.Lexed.{Lexed, ends, blank, comment, token}
 use Rattle.jimple_lex.specs.declared.token.Token.{Token}
 use Rattle.jimple_lex.specs.declared.token.TokenKind.{TokenKind}
 use Rattle.jimple_lex.specs.declared.token.TokenKind.TheVariants.{Word, Keyword, Number, Text, Sign}
 use Rattle.jimple_grammar.specs.declared.lexeme.Lexeme.{Lexeme}
+use Rattle.jimple_grammar.specs.declared.raw.RawBody.{RawBody}
 use Rattle.jimple_grammar.specs.declared.raw.RawCode.{RawCode}
 use Rattle.jimple_grammar.specs.declared.raw.RawItem.{RawItem}
 use Rattle.jimple_grammar.specs.declared.raw.RawItem.TheVariants as items
-use Rattle.jimple_names.specs.Scope.{items_of, stmts_of}
+use Rattle.jimple_grammar.specs.Fits.{BodyFits}
+use Rattle.jimple_names.specs.Scope.{items_of, stmts_of, scope_of}
+use Rattle.jimple_names.specs.Tree.{stmt_of, body_of}
 use Rattle.jimple_rewrite.proofs.TokensOf.{Form, of_token}
 
 -- Tokens
@@ -73,8 +77,16 @@ behind_labels : (ts : List Lexeme) (is : List RawItem) → length (stmts_of (map
 behind_labels [] is = refl
 behind_labels (t ∷ ts) is = behind_labels ts is
 
-pub few_stmts_of : (c : RawCode) → length (stmts_of (items_of c)) ≤ suc (length c.rest)
+few_stmts_of : (c : RawCode) → length (stmts_of (items_of c)) ≤ suc (length c.rest)
 few_stmts_of c =
     let same = behind_labels c.labels (items.Stmt c.front ∷ c.rest) in
     let less = no_more c.rest in
     omega (arith, same, less)
+
+module _ (bytes : List ℕ) (P : Lexeme → Type 0) (n : ℕ) where
+  pub body_few : n < 2 ^ 32 → (b : RawBody) → BodyFits P n b → length (body_of bytes b).stmts < 2 ^ 32
+  body_few few b h =
+      let same = length-map (stmts_of (items_of b.code)) (stmt_of bytes (scope_of bytes b)) in
+      let less = few_stmts_of b.code in
+      let within = h.code.few in
+      omega (arith, same, less, within, few)

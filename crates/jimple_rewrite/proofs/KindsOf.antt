@@ -5,25 +5,21 @@ use Rattle.std.specs.List.{list_any, list_all, slice_split}
 use Rattle.std.specs.Fmt.{digits}
 use Rattle.std.specs.Str.{bytes_eq}
 use Rattle.std.proofs.lemmas.Bool.{or_parts, and_parts, not-true, cond-false, both_ways, false_from_ne_true}
-use Rattle.jimple_lex.specs.Forms.{is_keyword, keywords as lexed}
+use Rattle.jimple_words.specs.Bytes.{is_plain}
+use Rattle.jimple_lex.specs.declared.token.TokenKind.{TokenKind}
 use Rattle.jimple_lex.specs.declared.token.TokenKind.TheVariants as tokens
-use Rattle.jimple_tree.specs.Names.{segment_text, needs_quotes, begins_badly, is_plain_byte, is_one_of, reserved, keywords as words, primitives, further_modifiers, quoted_name, name_text, initializers}
+use Rattle.jimple_tree.specs.Names.{segment_text, needs_quotes, begins_badly, is_one_of, primitives, quoted_name, name_text, initializers}
 use Rattle.jimple_tree.specs.Names as tree
 use Rattle.jimple_tree.specs.Operands.{base_text}
-use Rattle.jimple_tree.specs.declared.tree.BinOp.{BinOp}
-use Rattle.jimple_tree.specs.declared.tree.BinOp.TheVariants.{Add, Sub, Mul, Div, Rem, And, Or, Xor, Shl, Shr, Ushr, Cmp, Cmpg, Cmpl}
-use Rattle.jimple_tree.specs.declared.tree.Cond.{Cond}
-use Rattle.jimple_tree.specs.declared.tree.Cond.TheVariants.{Eq, Ne, Lt, Le, Gt, Ge}
-use Rattle.jimple_grammar.specs.declared.kind.Kind.{Kind}
-use Rattle.jimple_grammar.specs.declared.kind.Kind.TheVariants as kinds
-use Rattle.jimple_grammar.specs.Kind.{Kinds, has}
-use Rattle.jimple_grammar.specs.Kinds.{Texts, kind_in, keywords, signs, further, names_parameter, parameter_kind, word_kind, kind_of}
-use Rattle.jimple_grammar.specs.Words as sets
-use Rattle.jimple_grammar.specs.Forms.{sure_types}
-use Rattle.jimple_rewrite.specs.OperandPieces.{base_kind}
-use Rattle.jimple_rewrite.specs.StatementPieces.{cond_sign, op_kind, op_sign}
-use Rattle.jimple_rewrite.specs.Written.{IsModifier, modifier_keywords}
-use Rattle.jimple_rewrite.proofs.Fine.{in_words}
+use Rattle.jimple_words.specs.declared.kind.Kind.{Kind}
+use Rattle.jimple_words.specs.declared.kind.Kind.TheVariants as kinds
+use Rattle.jimple_words.specs.Kind.{Kinds, has}
+use Rattle.jimple_words.specs.Kinds.{Texts, kind_in, keywords, further, further_modifiers, is_keyword, is_further_modifier, is_reserved, names_parameter, parameter_kind, word_kind}
+use Rattle.jimple_grammar.specs.Lexemes.{kind_of}
+use Rattle.jimple_words.specs.Sets as sets
+use Rattle.jimple_words.specs.Sets.{sure_types}
+use Rattle.jimple_rewrite.proofs.Written.{IsModifier, modifier_keywords, further_words}
+use Rattle.jimple_rewrite.proofs.PlainWords.{in_words}
 use Rattle.jimple_rewrite.proofs.Names.{clean, all_clean, dot_inside, behind}
 
 cond_has : (ks : Kinds) (k l : Kind) (b : Bool) → has ks k ≡ true → has ks l ≡ true → has ks (cond b k l) ≡ true
@@ -54,40 +50,37 @@ in_types text = parameter_has sets.types text refl (in_kinds sets.types further 
 
 -- Further modifiers are no names as they are written
 
-no_further : (text : List ℕ) → list_all clean text ≡ false → is_one_of further_modifiers text ≡ false
-unfolding is_one_of further_modifiers
-no_further text e = false_from_ne_true (is_one_of further_modifiers text) (λ k. both_ways (list_all clean text) e (all_clean further_modifiers text refl k))
+no_further : (text : List ℕ) → list_all clean text ≡ false → is_further_modifier text ≡ false
+unfolding is_further_modifier
+no_further text e = false_from_ne_true (is_further_modifier text) (λ k. both_ways (list_all clean text) e (all_clean further_modifiers text refl k))
 
-reserved_parts : (words more : List (List ℕ)) (text : List ℕ) → is_one_of (words ++ more) text ≡ false → is_one_of more text ≡ false
-unfolding is_one_of
-reserved_parts [] more text e = e
-reserved_parts (word ∷ words) more text e = reserved_parts words more text (or_parts (bytes_eq text word) (is_one_of (words ++ more) text) e).1
+plain_no_further : (segment : List ℕ) → needs_quotes segment ≡ false → is_further_modifier segment ≡ false
+unfolding needs_quotes
+plain_no_further segment e =
+    let p = or_parts (begins_badly segment || list_any (λ b. not (is_plain b)) segment) (is_reserved segment) e in
+    (or_parts (is_keyword segment) (is_further_modifier segment) p.1).1
 
-plain_no_further : (segment : List ℕ) → needs_quotes segment ≡ false → is_one_of further_modifiers segment ≡ false
-unfolding needs_quotes reserved
-plain_no_further segment e = reserved_parts words further_modifiers segment (or_parts (begins_badly segment || list_any (λ b. not (is_plain_byte b)) segment) (is_one_of reserved segment) e).1
-
-joined_no_further : (first : List ℕ) (parts : List (List ℕ)) → is_one_of further_modifiers (segment_text first ++ behind parts) ≡ false
-joined_no_further first [] = ap (is_one_of further_modifiers) (append-nil (segment_text first)) ∙ by_case (needs_quotes first) refl where
-  by_case : (b : Bool) → needs_quotes first ≡ b → is_one_of further_modifiers (cond b (codes "'" ++ first ++ codes "'") first) ≡ false
+joined_no_further : (first : List ℕ) (parts : List (List ℕ)) → is_further_modifier (segment_text first ++ behind parts) ≡ false
+joined_no_further first [] = ap is_further_modifier (append-nil (segment_text first)) ∙ by_case (needs_quotes first) refl where
+  by_case : (b : Bool) → needs_quotes first ≡ b → is_further_modifier (cond b (codes "'" ++ first ++ codes "'") first) ≡ false
   by_case true e = no_further (39 ∷ (first ++ 39 ∷ [])) refl
   by_case false e = plain_no_further first e
 joined_no_further first (part ∷ parts) = no_further (segment_text first ++ behind (part ∷ parts)) (dot_inside (segment_text first) (segment_text part ++ behind parts))
 
-parts_no_further : (parts : List (List ℕ)) → is_one_of further_modifiers (tree.joined (codes ".") segment_text parts) ≡ false
-unfolding is_one_of further_modifiers
+parts_no_further : (parts : List (List ℕ)) → is_further_modifier (tree.joined (codes ".") segment_text parts) ≡ false
+unfolding is_further_modifier
 parts_no_further [] = refl
 parts_no_further (first ∷ parts) = joined_no_further first parts
 
-initial : (n : List ℕ) → is_one_of initializers n ≡ true → not (is_one_of further_modifiers n) ≡ true
-unfolding is_one_of initializers further_modifiers
-initial n e = in_words (λ t. not (is_one_of further_modifiers t)) initializers n refl e
+initial : (n : List ℕ) → is_one_of initializers n ≡ true → not (is_further_modifier n) ≡ true
+unfolding is_one_of initializers is_further_modifier
+initial n e = in_words (λ t. not (is_further_modifier t)) initializers n refl e
 
-name_no_further : (name : List ℕ) → is_one_of further_modifiers (name_text name) ≡ false
+name_no_further : (name : List ℕ) → is_further_modifier (name_text name) ≡ false
 unfolding name_text quoted_name
 name_no_further name = by_case (is_one_of initializers name) refl where
-  by_case : (b : Bool) → is_one_of initializers name ≡ b → is_one_of further_modifiers (cond b name (quoted_name name)) ≡ false
-  by_case true e = not-true (is_one_of further_modifiers name) (initial name e)
+  by_case : (b : Bool) → is_one_of initializers name ≡ b → is_further_modifier (cond b name (quoted_name name)) ≡ false
+  by_case true e = not-true (is_further_modifier name) (initial name e)
   by_case false e = parts_no_further (slice_split (λ b. b == 46) name)
 
 kind_not : (entries : Texts) (text : List ℕ) → list_any (λ (e : List ℕ × Kind). bytes_eq text e.0) entries ≡ false → kind_in entries text ≡ kinds.Word
@@ -95,8 +88,8 @@ kind_not [] text e = refl
 kind_not (entry ∷ entries) text e =
     let p = or_parts (bytes_eq text entry.0) (list_any (λ (f : List ℕ × Kind). bytes_eq text f.0) entries) e in cond-false (bytes_eq text entry.0) _ _ p.0 ∙ kind_not entries text p.1
 
-surely : (text : List ℕ) → is_one_of further_modifiers text ≡ false → has sure_types (kind_of tokens.Word text) ≡ true
-unfolding further further_modifiers is_one_of
+surely : (text : List ℕ) → is_further_modifier text ≡ false → has sure_types (kind_of tokens.Word text) ≡ true
+unfolding further is_further_modifier
 surely text e = parameter_has sure_types text refl (in_kinds sure_types fronts modifying text refl (ap (has sure_types) (kind_not modifying text e))) where
   fronts : Texts
   fronts = (codes "this", kinds.This) ∷ (codes "caughtexception", kinds.Caughtexception) ∷ (codes "methodhandle", kinds.Handle) ∷ (codes "methodtype", kinds.Handle) ∷ []
@@ -105,6 +98,11 @@ surely text e = parameter_has sure_types text refl (in_kinds sure_types fronts m
   modifying = (codes "synthetic", kinds.Further) ∷ (codes "constructor", kinds.Further) ∷ (codes "declared_synchronized", kinds.Further) ∷ (codes "bridge", kinds.Further) ∷ (codes "varargs", kinds.Further) ∷ []
 
 -- Types
+
+-- a primitive is a keyword
+abbrev pub base_kind : Bool → TokenKind
+base_kind true = tokens.Keyword
+base_kind false = tokens.Word
 
 primitive_kind : (ks : Kinds) (base : List ℕ) → list_all (λ w. has ks (kind_in keywords w)) primitives ≡ true → is_one_of primitives base ≡ true → has ks (kind_of tokens.Keyword base) ≡ true
 unfolding is_one_of
@@ -127,36 +125,8 @@ sure_kind base = by_case (is_one_of primitives base) refl where
 -- Modifiers and literals
 
 pub modifier_kind : (m : List ℕ) → IsModifier m → has (sets.modifiers ++ kinds.Further ∷ []) (kind_of (cond (is_keyword m) tokens.Keyword tokens.Word) m) ≡ true
-unfolding is_one_of modifier_keywords further_modifiers is_keyword lexed keywords further
-modifier_kind m e = in_words (λ t. has (sets.modifiers ++ kinds.Further ∷ []) (kind_of (cond (is_keyword t) tokens.Keyword tokens.Word) t)) (modifier_keywords ++ further_modifiers) m refl e
-
--- Conditions and operators
-
-pub cond_kind : (c : Cond) → has sets.conditions (kind_of tokens.Sign (cond_sign c)) ≡ true
-unfolding signs
-cond_kind Eq = refl
-cond_kind Ne = refl
-cond_kind Lt = refl
-cond_kind Le = refl
-cond_kind Gt = refl
-cond_kind Ge = refl
-
-pub operator_kind : (op : BinOp) → has sets.operators (kind_of (op_kind op) (op_sign op)) ≡ true
-unfolding signs keywords
-operator_kind Add = refl
-operator_kind Sub = refl
-operator_kind Mul = refl
-operator_kind Div = refl
-operator_kind Rem = refl
-operator_kind And = refl
-operator_kind Or = refl
-operator_kind Xor = refl
-operator_kind Shl = refl
-operator_kind Shr = refl
-operator_kind Ushr = refl
-operator_kind Cmp = refl
-operator_kind Cmpg = refl
-operator_kind Cmpl = refl
+unfolding is_one_of modifier_keywords is_keyword keywords further
+modifier_kind m e = in_words (λ t. has (sets.modifiers ++ kinds.Further ∷ []) (kind_of (cond (is_keyword t) tokens.Keyword tokens.Word) t)) (modifier_keywords ++ further_words) m refl e
 
 -- Parameters
 

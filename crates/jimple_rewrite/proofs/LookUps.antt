@@ -10,7 +10,7 @@ use Rattle.jimple_tree.specs.declared.tree.Body.{Body}
 use Rattle.jimple_tree.specs.declared.tree.Local.{Local}
 use Rattle.jimple_names.specs.declared.scope.Label.{Label}
 use Rattle.jimple_names.specs.Scope.{local_at, label_at}
-use Rattle.jimple_rewrite.specs.Plain.{LocalsAreDistinct}
+use Rattle.jimple_rewrite.proofs.Written.{LocalsAreDistinct}
 
 pub same_name : (name : List ℕ) → bytes_eq name name ≡ true
 same_name name = let e : name ≡ name = refl in search (rules, bytes_eq-Decides, e)

@@ -6,47 +6,38 @@ use Rattle.std.proofs.lemmas.Bool.{or_cases, or_left, or_parts, and_parts, and_r
 use Rattle.std.proofs.lemmas.List.Elements.{filter-append}
 use Rattle.std.proofs.lemmas.List.Splits.{join_with_byte-slice_split}
 use Rattle.std.proofs.lemmas.Slice.Eq.{bytes_eq-Decides}
-use Rattle.jimple_lex.specs.Bytes.{begins_plain, is_plain, is_digit as digit, is_quotable, single_quote}
-use Rattle.jimple_lex.specs.Forms.{IsSegment, plain, quoted, IsJoined, last, joined, IsWord, segments, initializer, class_initializer, is_keyword, keywords as words}
+use Rattle.jimple_lex.specs.Bytes.{is_quotable, single_quote}
+use Rattle.jimple_words.specs.Bytes.{is_digit, begins_plain, is_plain}
+use Rattle.jimple_lex.specs.Forms.{IsSegment, plain, quoted, IsJoined, last, joined, IsWord, segments, initializer, class_initializer}
+use Rattle.jimple_words.specs.Kinds.{Texts, is_in, is_keyword, keywords, is_further_modifier, is_reserved}
+use Rattle.jimple_words.specs.declared.kind.Kind.{Kind}
 use Rattle.jimple_lex.specs.Tokens.{IsToken}
 use Rattle.jimple_lex.specs.declared.token.TokenKind.TheVariants.{Word}
 use Rattle.jimple_lex.proofs.Parts.{Pass}
-use Rattle.jimple_tree.specs.Names.{segment_text, needs_quotes, begins_badly, is_plain_byte, is_digit, is_letter, is_one_of, reserved, keywords, further_modifiers, quoted_name, name_text, initializers}
+use Rattle.jimple_tree.specs.Names.{segment_text, needs_quotes, begins_badly, is_one_of, quoted_name, name_text, initializers}
 use Rattle.jimple_tree.specs.Names as tree
-use Rattle.jimple_rewrite.specs.After.{after_word}
-use Rattle.jimple_rewrite.specs.Names.{IsName, unquoted}
+use Rattle.jimple_rewrite.proofs.After.{after_word}
+use Rattle.jimple_rewrite.proofs.IsName.{IsName, unquoted}
 use Rattle.jimple_rewrite.proofs.Words.{word_token, init_token, clinit_token}
 
 -- Segments
 
-plain_bytes : (segment : List ℕ) → list_any (λ b. not (is_plain_byte b)) segment ≡ false → Pass is_plain segment
+plain_bytes : (segment : List ℕ) → list_any (λ b. not (is_plain b)) segment ≡ false → Pass is_plain segment
 plain_bytes [] e = tt
-plain_bytes (c ∷ cs) e =
-    let p = or_parts (not (is_plain_byte c)) (list_any (λ b. not (is_plain_byte b)) cs) e in
-    (plain_byte c (not-false (is_plain_byte c) p.0), plain_bytes cs p.1)
-  where
-    plain_byte : (b : ℕ) → is_plain_byte b ≡ true → is_plain b ≡ true
-    plain_byte b e = grind arith
+plain_bytes (c ∷ cs) e = let p = or_parts (not (is_plain c)) (list_any (λ b. not (is_plain b)) cs) e in (not-false (is_plain c) p.0, plain_bytes cs p.1)
 
-begins : (c : ℕ) → is_plain_byte c ≡ true → (is_digit c || (c == 35)) ≡ false → begins_plain c ≡ true
+begins : (c : ℕ) → is_plain c ≡ true → (is_digit c || (c == 35)) ≡ false → begins_plain c ≡ true
 begins c e f = grind arith
 
 -- what needs no quotes is a plain segment, and no keyword
 plain_segment : (segment : List ℕ) → needs_quotes segment ≡ false → IsSegment segment × (is_keyword segment ≡ false)
-unfolding needs_quotes is_keyword words reserved is_one_of keywords
+unfolding needs_quotes
 plain_segment [] e = absurd (let bad : true ≡ false = e in cc)
 plain_segment (c ∷ cs) e =
-    let p = or_parts (begins_badly (c ∷ cs) || list_any (λ b. not (is_plain_byte b)) (c ∷ cs)) (is_one_of reserved (c ∷ cs)) e in
-    let q = or_parts (begins_badly (c ∷ cs)) (list_any (λ b. not (is_plain_byte b)) (c ∷ cs)) p.0 in
-    let r = or_parts (not (is_plain_byte c)) (list_any (λ b. not (is_plain_byte b)) cs) q.1 in
-    (plain c cs refl (begins c (not-false (is_plain_byte c) r.0) q.0) (plain_bytes cs r.1), front_fails (pointwise_any (c ∷ cs)) keywords further_modifiers p.1)
-  where
-    pointwise_any : List ℕ → List ℕ → Bool
-    pointwise_any text word = bytes_eq text word
-
-    front_fails : (test : List ℕ → Bool) (a b : List (List ℕ)) → list_any test (a ++ b) ≡ false → list_any test a ≡ false
-    front_fails test [] b e = refl
-    front_fails test (x ∷ a) b e = let p = or_parts (test x) (list_any test (a ++ b)) e in ap (λ v. v || list_any test a) p.0 ∙ front_fails test a b p.1
+    let p = or_parts (begins_badly (c ∷ cs) || list_any (λ b. not (is_plain b)) (c ∷ cs)) (is_reserved (c ∷ cs)) e in
+    let q = or_parts (begins_badly (c ∷ cs)) (list_any (λ b. not (is_plain b)) (c ∷ cs)) p.0 in
+    let r = or_parts (not (is_plain c)) (list_any (λ b. not (is_plain b)) cs) q.1 in
+    (plain c cs refl (begins c (not-false (is_plain c) r.0) q.0) (plain_bytes cs r.1), (or_parts (is_keyword (c ∷ cs)) (is_further_modifier (c ∷ cs)) p.1).0)
 
 segment_is : (segment : List ℕ) → IsName segment → IsSegment (segment_text segment)
 segment_is segment n = by_case (needs_quotes segment) refl where
@@ -89,18 +80,18 @@ joined_unquoted first (part ∷ parts) n all =
 abbrev pub clean : ℕ → Bool
 clean c = not (c == 39) && not (c == 46)
 
-pub all_clean : (words : List (List ℕ)) (text : List ℕ) → list_all (list_all clean) words ≡ true → list_any (bytes_eq text) words ≡ true → list_all clean text ≡ true
+pub all_clean : (table : Texts) (text : List ℕ) → list_all (λ (e : List ℕ × Kind). list_all clean e.0) table ≡ true → is_in table text ≡ true → list_all clean text ≡ true
 all_clean [] text all any = absurd (let bad : false ≡ true = any in cc)
-all_clean (word ∷ words) text all any =
-    let each = and_parts (list_all clean word) (list_all (list_all clean) words) all in
-    elim (or_cases (bytes_eq text word) (list_any (bytes_eq text) words) any) [
-      | inl here ↦ ap (list_all clean) ((bytes_eq-Decides text word).0 here) ∙ each.0
-      | inr later ↦ all_clean words text each.1 later
+all_clean (entry ∷ table) text all any =
+    let each = and_parts (list_all clean entry.0) (list_all (λ (e : List ℕ × Kind). list_all clean e.0) table) all in
+    elim (or_cases (bytes_eq text entry.0) (is_in table text) any) [
+      | inl here ↦ ap (list_all clean) ((bytes_eq-Decides text entry.0).0 here) ∙ each.0
+      | inr later ↦ all_clean table text each.1 later
     ]
 
 no_keyword : (text : List ℕ) → list_all clean text ≡ false → is_keyword text ≡ false
-unfolding is_keyword words
-no_keyword text e = false_from_ne_true (is_keyword text) (λ k. both_ways (list_all clean text) e (all_clean words text refl k))
+unfolding is_keyword keywords
+no_keyword text e = false_from_ne_true (is_keyword text) (λ k. both_ways (list_all clean text) e (all_clean keywords text refl k))
 
 pub dot_inside : (a b : List ℕ) → list_all clean (a ++ 46 ∷ b) ≡ false
 dot_inside [] b = refl
@@ -201,7 +192,7 @@ both_names (c ∷ a) b n m = (n.0, both_names a b n.1 m)
 
 segment_named : (text : List ℕ) → IsSegment text → IsName (unquoted text)
 segment_named text (plain c cs e b p) =
-    let n = plain_name (c ∷ cs) (or_left (begins_plain c || digit c) (c == 35) (or_left (begins_plain c) (digit c) b), p) in
+    let n = plain_name (c ∷ cs) (or_left (begins_plain c || is_digit c) (c == 35) (or_left (begins_plain c) (is_digit c) b), p) in
     subst (λ t. IsName (unquoted t)) (sym e) (subst IsName (sym (name_unquoted (c ∷ cs) n)) n)
 segment_named text (quoted name e q) =
     subst (λ t. IsName (unquoted t)) (sym e) (subst IsName (sym (filter-append unquote name (39 ∷ []) ∙ append-nil (unquoted name) ∙ name_unquoted name q)) q)

@@ -15,14 +15,13 @@ use Rattle.jimple_tree.specs.declared.tree.Catch.{Catch}
 use Rattle.jimple_tree.specs.declared.tree.Local.{Local}
 use Rattle.jimple_tree.specs.declared.tree.Stmt.{Stmt}
 use Rattle.jimple_names.specs.Scope.{label_at}
-use Rattle.jimple_rewrite.specs.Plain.{LocalsAreDistinct}
-use Rattle.jimple_rewrite.specs.Known.{Knows, label_of, label_if, labels_of, known_scope}
-use Rattle.jimple_rewrite.specs.Names.{IsName}
-use Rattle.jimple_rewrite.specs.Written.{LocalIsWritten}
+use Rattle.jimple_rewrite.proofs.Known.{Knows, label_of, label_if, labels_of, known_scope}
+use Rattle.jimple_rewrite.proofs.IsName.{IsName}
+use Rattle.jimple_rewrite.proofs.Written.{LocalIsWritten, LocalsAreDistinct}
 use Rattle.jimple_rewrite.proofs.Digits.{label_apart}
 use Rattle.jimple_rewrite.proofs.LabelNumbers.{number_grows, number_small}
 use Rattle.jimple_rewrite.proofs.LookUps.{local_found, label_past, label_here}
-use Rattle.jimple_rewrite.proofs.Reading.{all_first}
+use Rattle.jimple_rewrite.proofs.Lists.{all_first}
 
 -- The places that a body names are named
 

@@ -2,8 +2,10 @@
 use Rattle.std.proofs.Common.{◌≡◌, ℕ, Bool, true, false, cond, ◌&&◌, ◌==◌, List, [], ◌∷◌, ◌++◌, sym, ap, refl, ◌∙◌, arith, append_assoc, codes}
 use Rattle.std.specs.List.{list_any}
 use Rattle.std.proofs.lemmas.Bool.{and_left, eqb-true, both_ways, false_from_ne_true, or_from}
-use Rattle.jimple_lex.specs.Bytes.{begins_plain, is_plain, begins_with, dot}
-use Rattle.jimple_lex.specs.Forms.{IsSegment, plain, quoted, IsJoined, last, joined, is_sign, signs}
+use Rattle.jimple_lex.specs.Bytes.{begins_with, dot}
+use Rattle.jimple_words.specs.Bytes.{begins_plain, is_plain}
+use Rattle.jimple_lex.specs.Forms.{IsSegment, plain, quoted, IsJoined, last, joined, is_sign}
+use Rattle.jimple_words.specs.Kinds.{signs}
 use Rattle.jimple_lex.specs.Tokens.{IsToken, begins_comment}
 use Rattle.jimple_lex.specs.Front.{front}
 use Rattle.jimple_lex.specs.Signs.{is_pair, is_triple}
@@ -62,59 +64,7 @@ sign_token text rest s n f = record {
   no_comment = not_true (begins_comment (text ++ rest)) (λ b. let bad : fronts.Sign ≡ fronts.Comment = sym f ∙ comment_begins (text ++ rest) b in cc);
 }
 
--- Signs that nothing goes on with
-
-pub open_brace : (rest : List ℕ) → IsToken Sign (codes "{") rest
-unfolding is_sign signs
-open_brace rest = sign_token (codes "{") rest refl refl refl
-
-pub close_brace : (rest : List ℕ) → IsToken Sign (codes "}") rest
-unfolding is_sign signs
-close_brace rest = sign_token (codes "}") rest refl refl refl
-
-pub open_paren : (rest : List ℕ) → IsToken Sign (codes "(") rest
-unfolding is_sign signs
-open_paren rest = sign_token (codes "(") rest refl refl refl
-
-pub close_paren : (rest : List ℕ) → IsToken Sign (codes ")") rest
-unfolding is_sign signs
-close_paren rest = sign_token (codes ")") rest refl refl refl
-
-pub open_bracket : (rest : List ℕ) → IsToken Sign (codes "[") rest
-unfolding is_sign signs
-open_bracket rest = sign_token (codes "[") rest refl refl refl
-
-pub close_bracket : (rest : List ℕ) → IsToken Sign (codes "]") rest
-unfolding is_sign signs
-close_bracket rest = sign_token (codes "]") rest refl refl refl
-
-pub comma : (rest : List ℕ) → IsToken Sign (codes ",") rest
-unfolding is_sign signs
-comma rest = sign_token (codes ",") rest refl refl refl
-
-pub semicolon : (rest : List ℕ) → IsToken Sign (codes ";") rest
-unfolding is_sign signs
-semicolon rest = sign_token (codes ";") rest refl refl refl
-
-pub a_dot : (rest : List ℕ) → IsToken Sign (codes ".") rest
-unfolding is_sign signs
-a_dot rest = sign_token (codes ".") rest refl refl refl
-
-pub at_sign : (rest : List ℕ) → IsToken Sign (codes "@") rest
-unfolding is_sign signs
-at_sign rest = sign_token (codes "@") rest refl refl refl
-
--- Signs with a blank behind them
-
-pub colon : (rest : List ℕ) → goes_longer rest ≡ false → IsToken Sign (codes ":") rest
-unfolding is_sign signs
-colon rest n = sign_token (codes ":") rest refl n refl
-
--- Signs round a signature
-
-pub greater : (rest : List ℕ) → goes_longer rest ≡ false → IsToken Sign (codes ">") rest
-unfolding is_sign signs
-greater rest n = sign_token (codes ">") rest refl n refl
+-- The sign in front of a signature
 
 -- no plain bytes with a `>` behind them are in front where plain bytes end at another byte
 begins_no : (word segment : List ℕ) (next : ℕ) (rest : List ℕ) → Pass is_plain word → Pass is_plain segment → is_plain next ≡ false → (62 == next) ≡ false

@@ -1,30 +1,30 @@
 -- The tokens of a text: each has the form that its kind says. So names are words, literals are literals, and modifiers are modifiers.
-use Rattle.std.proofs.Common.{◌≡◌, ℕ, suc, nat_le, Bool, true, false, cond, ◌||◌, ◌&&◌, List, [], ◌∷◌, ◌++◌, length, map, drop, All, sym, ap, subst, refl, ◌∙◌, arith, append_assoc, length-append, codes, true≢false, if◌then◌else◌}
-use Rattle.std.specs.List.{list_any}
+use Rattle.std.proofs.Common.{◌≡◌, ℕ, suc, nat_le, Bool, true, false, cond, ◌||◌, ◌&&◌, List, [], ◌∷◌, ◌++◌, length, drop, All, sym, ap, subst, refl, ◌∙◌, arith, append_assoc, length-append, codes, true≢false, if◌then◌else◌}
 use Rattle.std.specs.Str.{bytes_eq}
 use Rattle.std.proofs.lemmas.Bool.{and_parts}
 use Rattle.std.proofs.lemmas.List.Elements.{All-nil, All-cons}
 use Rattle.std.proofs.lemmas.Slice.Eq.{bytes_eq-Decides}
-use Rattle.jimple_lex.specs.Forms.{IsWord, IsNumber, IsString, is_sign, signs as sign_texts}
+use Rattle.jimple_lex.specs.Forms.{IsWord, IsNumber, IsString, is_sign}
 use Rattle.jimple_lex.specs.Lexed.{Lexed, ends, blank, comment, token}
 use Rattle.jimple_lex.specs.Tokens.{IsToken}
 use Rattle.jimple_lex.specs.declared.token.Token.{Token}
 use Rattle.jimple_lex.specs.declared.token.TokenKind.{TokenKind}
 use Rattle.jimple_lex.specs.declared.token.TokenKind.TheVariants.{Word, Keyword, Number, Text, Sign}
-use Rattle.jimple_grammar.specs.declared.kind.Kind.{Kind}
-use Rattle.jimple_grammar.specs.declared.kind.Kind.TheVariants as kinds
+use Rattle.jimple_words.specs.declared.kind.Kind.{Kind}
+use Rattle.jimple_words.specs.declared.kind.Kind.TheVariants as kinds
 use Rattle.jimple_grammar.specs.declared.lexeme.Lexeme.{Lexeme}
 use Rattle.jimple_grammar.specs.Fits.{Is}
-use Rattle.jimple_grammar.specs.Kind.{Kinds, has}
-use Rattle.jimple_grammar.specs.Kinds.{Texts, kind_in, kind_of, word_kind, parameter_kind, names_parameter, keywords, signs, further, read_digits}
+use Rattle.jimple_words.specs.Kind.{Kinds, has}
+use Rattle.jimple_words.specs.Kinds.{Texts, kind_in, is_in, word_kind, parameter_kind, names_parameter, keywords, signs, further, read_digits}
+use Rattle.jimple_grammar.specs.Lexemes.{kind_of}
 use Rattle.jimple_grammar.specs.Lexemes.{between, lexeme, lexemes}
-use Rattle.jimple_grammar.specs.Words.{words, modifiers, constants}
+use Rattle.jimple_words.specs.Sets.{words, modifiers, constants}
 use Rattle.jimple_grammar.proofs.Opens.{subset, in_subset}
 use Rattle.jimple_names.specs.Texts.{text, name_of}
-use Rattle.jimple_tree.specs.Names.{is_one_of, further_modifiers}
-use Rattle.jimple_rewrite.specs.Names.{IsName, unquoted}
-use Rattle.jimple_rewrite.specs.Written.{IsLiteral, null, number, string, IsModifier, modifier_keywords}
-use Rattle.jimple_rewrite.proofs.Lexemes.{between_is}
+use Rattle.jimple_tree.specs.Names.{is_one_of}
+use Rattle.jimple_rewrite.proofs.IsName.{IsName, unquoted}
+use Rattle.jimple_rewrite.proofs.Written.{IsLiteral, null, number, string, IsModifier, modifier_keywords, further_words}
+use Rattle.jimple_rewrite.proofs.Lexing.{between_is}
 use Rattle.jimple_rewrite.proofs.Names.{word_named}
 
 -- the form of a token
@@ -109,7 +109,7 @@ word_listed ks test t p n h = of (names_parameter t) h where
   of false k = listed further ks test t p three.0 k
 
 -- all signs are in the table of signs
-sign_listed : (entries : Texts) (ks : Kinds) (t : List ℕ) → pass ks (λ x. false) entries ≡ true → list_any (bytes_eq t) (map (λ (e : List ℕ × Kind). e.0) entries) ≡ true → has ks (kind_in entries t) ≡ false
+sign_listed : (entries : Texts) (ks : Kinds) (t : List ℕ) → pass ks (λ x. false) entries ≡ true → is_in entries t ≡ true → has ks (kind_in entries t) ≡ false
 sign_listed [] ks t p any = absurd (true≢false (sym any))
 sign_listed (entry ∷ entries) ks t p any =
     let parts = and_parts (cond (has ks entry.1) false true) (pass ks (λ x. false) entries) p in
@@ -119,12 +119,12 @@ sign_listed (entry ∷ entries) ks t p any =
     off true e = absurd (true≢false (sym e))
     off false e = refl
 
-    of : (b : Bool) → (b || list_any (bytes_eq t) (map (λ (e : List ℕ × Kind). e.0) entries)) ≡ true → cond (has ks entry.1) false true ≡ true → (list_any (bytes_eq t) (map (λ (e : List ℕ × Kind). e.0) entries) ≡ true → has ks (kind_in entries t) ≡ false) → has ks (if b then entry.1 else kind_in entries t) ≡ false
+    of : (b : Bool) → (b || is_in entries t) ≡ true → cond (has ks entry.1) false true ≡ true → (is_in entries t ≡ true → has ks (kind_in entries t) ≡ false) → has ks (if b then entry.1 else kind_in entries t) ≡ false
     of true h c rest = off (has ks entry.1) c
     of false h c rest = rest h
 
 no_word_sign : (t : List ℕ) → is_sign t ≡ true → has words (kind_in signs t) ≡ false
-unfolding signs is_sign sign_texts
+unfolding signs is_sign
 no_word_sign t h = sign_listed signs words t refl h
 
 word_form : (kind : TokenKind) (t : List ℕ) → has words (kind_of kind t) ≡ true → Form kind t → IsWord t
@@ -163,10 +163,10 @@ abbrev pub modifier_kinds : Kinds
 modifier_kinds = modifiers ++ kinds.Further ∷ []
 
 abbrev names_modifier : List ℕ → Bool
-names_modifier t = is_one_of (modifier_keywords ++ further_modifiers) (unquoted t)
+names_modifier t = is_one_of (modifier_keywords ++ further_words) (unquoted t)
 
 modifier_form : (kind : TokenKind) (t : List ℕ) → has modifier_kinds (kind_of kind t) ≡ true → IsModifier (unquoted t)
-unfolding keywords further signs is_one_of modifier_keywords further_modifiers
+unfolding keywords further signs is_one_of modifier_keywords
 modifier_form Word t h = word_listed modifier_kinds names_modifier t refl refl h
 modifier_form Keyword t h = listed keywords modifier_kinds names_modifier t refl refl h
 modifier_form Number t h = absurd (true≢false (sym h))

@@ -1,11 +1,12 @@
 -- Numbers end where the text behind them says so.
 use Rattle.std.proofs.Common.{◌≡◌, ℕ, Bool, true, false, ◌||◌, ◌==◌, List, [], ◌∷◌, sym, subst, refl, arith, codes}
-use Rattle.jimple_lex.specs.Bytes.{is_digit, is_letter, goes_on}
+use Rattle.jimple_lex.specs.Bytes.{goes_on}
+use Rattle.jimple_words.specs.Bytes.{is_digit, is_letter}
 use Rattle.jimple_lex.specs.Forms.{IsNumber, unsigned, negative, named, named_negative}
 use Rattle.jimple_lex.specs.Tokens.{Longest}
 use Rattle.jimple_lex.proofs.Parts.{NotNext}
 use Rattle.jimple_lex.proofs.Numbers.{NotOn, last_of, unsigned_longest, negative_longest, named_longest, named_negative_longest}
-use Rattle.jimple_rewrite.specs.After.{after_value}
+use Rattle.jimple_rewrite.proofs.After.{after_value}
 use Rattle.jimple_rewrite.proofs.Words.{none_of}
 
 -- what a number may go on with

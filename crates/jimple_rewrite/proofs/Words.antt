@@ -2,13 +2,15 @@
 use Rattle.std.proofs.Common.{◌≡◌, inl, inr, ℕ, ◌≤◌, Bool, true, false, not, ◌&&◌, ◌==◌, List, [], ◌∷◌, ◌++◌, length, sym, ap, subst, refl, ◌∙◌, arith, append_assoc, length-append, codes}
 use Rattle.std.specs.List.{list_any, list_all}
 use Rattle.std.proofs.lemmas.Bool.{or_cases, and_parts, eqb-true, not-true}
-use Rattle.jimple_lex.specs.Bytes.{is_plain, begins_with, dot}
-use Rattle.jimple_lex.specs.Forms.{IsSegment, plain, quoted, IsJoined, last, joined, IsWord, segments, initializer, class_initializer, is_keyword, keywords}
+use Rattle.jimple_lex.specs.Bytes.{begins_with, dot}
+use Rattle.jimple_words.specs.Bytes.{is_plain}
+use Rattle.jimple_lex.specs.Forms.{IsSegment, plain, quoted, IsJoined, last, joined, IsWord, segments, initializer, class_initializer}
+use Rattle.jimple_words.specs.Kinds.{is_keyword, keywords}
 use Rattle.jimple_lex.specs.Tokens.{Longest, IsToken}
 use Rattle.jimple_lex.specs.declared.token.TokenKind.TheVariants.{Word, Keyword}
 use Rattle.jimple_lex.proofs.Parts.{NotNext, longest_of}
 use Rattle.jimple_lex.proofs.Segments.{begins_segment, joined_head, joined_past, plain_longest, quoted_longest, word_longest}
-use Rattle.jimple_rewrite.specs.After.{is_end, after_word}
+use Rattle.jimple_rewrite.proofs.After.{is_end, after_word}
 
 -- a test that none of these bytes passes
 pub none_of : (test : ℕ → Bool) (c : ℕ) (bytes : List ℕ) → list_all (λ x. not (test x)) bytes ≡ true → list_any (λ x. c == x) bytes ≡ true → test c ≡ false

@@ -1,11 +1,12 @@
 -- The classes of raw classes whose tokens are those of a text are written so that they can be read.
-use Rattle.std.proofs.Common.{ℕ, ◌<◌, List, [], ◌∷◌, ◌++◌, map, flat_map, filter_map, All, Option, Some, None, refl, sym, subst}
-use Rattle.std.specs.List.{AllByRecursion}
+use Rattle.std.proofs.Common.{◌≡◌, ℕ, ◌<◌, ◌^◌, List, [], ◌∷◌, ◌++◌, map, flat_map, filter_map, All, Option, Some, None, refl, sym, subst}
+use Rattle.std.specs.List.{AllByRecursion, list_any}
 use Rattle.std.specs.Option.{option_map}
 use Rattle.std.proofs.lemmas.List.{length-map}
-use Rattle.std.proofs.lemmas.List.Elements.{All-head, All-tail, All-append, All-cons, All-map}
+use Rattle.std.proofs.lemmas.List.Elements.{recursion_from_All, All-head, All-tail, All-append, All-cons, All-map}
+use Rattle.jimple_tree.specs.declared.tree.Method.{Method}
 use Rattle.jimple_grammar.specs.Fits as raw
-use Rattle.jimple_grammar.specs.Words.{names, types, words}
+use Rattle.jimple_words.specs.Sets.{names, types, words}
 use Rattle.jimple_grammar.specs.declared.lexeme.Lexeme.{Lexeme}
 use Rattle.jimple_grammar.specs.declared.raw.RawBody.{RawBody}
 use Rattle.jimple_grammar.specs.declared.raw.RawCall.{RawCall}
@@ -31,10 +32,14 @@ use Rattle.jimple_grammar.specs.declared.raw.RawStmt.{RawStmt}
 use Rattle.jimple_grammar.specs.declared.raw.RawStmt.TheVariants as stmts
 use Rattle.jimple_grammar.specs.declared.raw.RawType.{RawType}
 use Rattle.jimple_names.specs.Texts.{text, name_of, type_of, sig_of, field_sig_of}
+use Rattle.jimple_names.specs.Faults.{double, same_member, body_fault, optional_body_fault, member_fault, class_fault}
+use Rattle.jimple_names.proofs.WellFormedParts.{none_some, or_none, each_in_turn}
 use Rattle.jimple_names.specs.Scope.{Scope, items_of, stmts_of, scope_of}
 use Rattle.jimple_names.specs.Tree.{imm_of, invoke_of, given_of, rhs_of, case_of, stmt_of, catch_of, declares, locals_of, body_of, field_of, method_of, field_in, method_in, class_of}
-use Rattle.jimple_rewrite.specs.Names.{IsName}
-use Rattle.jimple_rewrite.specs.Written.{class, TypeIsWritten, SigIsWritten, FieldSigIsWritten, ImmIsWritten, InvokeIsWritten, GivenIsWritten, RhsIsWritten, CaseIsWritten, StmtIsWritten, LocalIsWritten, CatchIsWritten, BodyIsWritten, OptionalBodyIsWritten, IsModifier, FieldIsWritten, MethodIsWritten, ClassIsWritten}
+use Rattle.jimple_rewrite.proofs.IsName.{IsName}
+use Rattle.jimple_rewrite.proofs.Written.{class, TypeIsWritten, SigIsWritten, FieldSigIsWritten, ImmIsWritten, InvokeIsWritten, GivenIsWritten, RhsIsWritten, CaseIsWritten, StmtIsWritten, LocalIsWritten, CatchIsWritten, BodyIsWritten, OptionalBodyIsWritten, IsModifier, FieldIsWritten, MethodIsWritten, ClassIsWritten}
+use Rattle.jimple_rewrite.proofs.DistinctLocals.{body_distinct}
+use Rattle.jimple_rewrite.proofs.Few.{body_few}
 use Rattle.jimple_rewrite.proofs.TokensOf.{IsTokenOf, modifier_kinds, name_written, literal_written, string_written, number_written, modifier_written}
 
 -- Lists
@@ -47,7 +52,7 @@ both_all : {B : Type 0} (W : B → Type 0) (xs ys : List B) → AllByRecursion W
 both_all W [] ys h k = k
 both_all W (x ∷ xs) ys h k = (h.0, both_all W xs ys h.1 k)
 
-module _ (bytes : List ℕ) (n : ℕ) where
+module _ (bytes : List ℕ) (n : ℕ) (small : n < 2 ^ 32) where
   abbrev P : Lexeme → Type 0
   P = IsTokenOf bytes
 
@@ -148,34 +153,36 @@ module _ (bytes : List ℕ) (n : ℕ) where
   decls_written [] h = tt
   decls_written (d ∷ ds) h = both_all LocalIsWritten (locals_of bytes d) (flat_map (locals_of bytes) ds) (decl_written d (All-head (raw.DeclFits P n) d ds h)) (decls_written ds (All-tail (raw.DeclFits P n) d ds h))
 
-  body_written : (b : RawBody) → raw.BodyFits P n b → BodyIsWritten (body_of bytes b)
-  body_written b h =
+  body_written : (b : RawBody) → raw.BodyFits P n b → body_fault bytes b ≡ None → BodyIsWritten (body_of bytes b)
+  body_written b h e =
       let F = raw.ItemFits P n in
       let all : All F (items_of b.code) = All-append F (map items.Label b.code.labels) (items.Stmt b.code.front ∷ b.code.rest)
       (All-map F items.Label b.code.labels h.code.labels) (All-cons F (items.Stmt b.code.front) b.code.rest h.code.front h.code.rest) in
       record {
         locals = decls_written b.decls h.decls;
+        distinct = body_distinct bytes b e;
+        few = body_few bytes P n small b h;
         stmts = items_written (scope_of bytes b) (items_of b.code) all;
         catches = each_mapped (catch_of bytes (scope_of bytes b)) (raw.CatchFits P n) CatchIsWritten (catch_written (scope_of bytes b)) b.catches h.catches;
       }
 
   -- Members and classes
 
-  optional_body_written : (b : Option RawBody) → raw.OptionalBodyFits P n b → OptionalBodyIsWritten (option_map (body_of bytes) b)
-  optional_body_written None h = tt
-  optional_body_written (Some b) h = body_written b h
+  optional_body_written : (b : Option RawBody) → raw.OptionalBodyFits P n b → optional_body_fault bytes b ≡ None → OptionalBodyIsWritten (option_map (body_of bytes) b)
+  optional_body_written None h e = tt
+  optional_body_written (Some b) h e = body_written b h e
 
   field_written : (h : RawHead) → raw.HeadFits P n h → FieldIsWritten (field_of bytes h)
   field_written h f = record { modifiers = modifiers_written h.modifiers f.modifiers; type = type_written h.ty f.ty; name = name_of_words h.name f.name }
 
-  method_written : (h : RawHead) (m : RawMethod) → raw.HeadFits P n h → raw.MethodFits P n m → MethodIsWritten (method_of bytes h m)
-  method_written h m f g = record {
+  method_written : (h : RawHead) (m : RawMethod) → raw.HeadFits P n h → raw.MethodFits P n m → optional_body_fault bytes m.body ≡ None → MethodIsWritten (method_of bytes h m)
+  method_written h m f g e = record {
     modifiers = modifiers_written h.modifiers f.modifiers;
     returned = type_written h.ty f.ty;
     name = name_of_words h.name f.name;
     params = types_written m.params g.params;
     throws = names_written m.throws g.throws;
-    body = optional_body_written m.body g.body;
+    body = optional_body_written m.body g.body e;
   }
 
   fields_written : (xs : List RawMember) → All (raw.MemberFits P n) xs → AllByRecursion FieldIsWritten (filter_map (field_in bytes) xs)
@@ -183,19 +190,21 @@ module _ (bytes : List ℕ) (n : ℕ) where
   fields_written (members.Field k ∷ xs) h = (field_written k (All-head (raw.MemberFits P n) (members.Field k) xs h), fields_written xs (All-tail (raw.MemberFits P n) (members.Field k) xs h))
   fields_written (members.Method k m ∷ xs) h = fields_written xs (All-tail (raw.MemberFits P n) (members.Method k m) xs h)
 
-  methods_written : (xs : List RawMember) → All (raw.MemberFits P n) xs → AllByRecursion MethodIsWritten (filter_map (method_in bytes) xs)
-  methods_written [] h = tt
-  methods_written (members.Field k ∷ xs) h = methods_written xs (All-tail (raw.MemberFits P n) (members.Field k) xs h)
-  methods_written (members.Method k m ∷ xs) h =
-      let here = All-head (raw.MemberFits P n) (members.Method k m) xs h in
-      (method_written k m here.0 here.1, methods_written xs (All-tail (raw.MemberFits P n) (members.Method k m) xs h))
+  member_written : (before : List RawMember) (x : RawMember) (y : Method) → raw.MemberFits P n x → member_fault bytes before x ≡ None → method_in bytes x ≡ Some y → MethodIsWritten y
+  member_written before (members.Field h) y f e is = absurd (none_some y (sym is))
+  member_written before (members.Method h m) y f e is =
+      let parts = or_none (double (list_any (same_member bytes (members.Method h m)) before) h.name) (optional_body_fault bytes m.body) e in
+      subst MethodIsWritten (some_is (method_of bytes h m) y is) (method_written h m f.0 f.1 parts.1)
+    where
+      some_is : (u v : Method) → ◌≡◌ {A = Option Method} (Some u) (Some v) → u ≡ v
+      some_is u v same = cc
 
-  pub class_written : (c : RawClass) → raw.ClassFits P n c → ClassIsWritten (class_of bytes c)
-  class_written c h = record {
+  pub class_written : (c : RawClass) → raw.ClassFits P n c → class_fault bytes c ≡ None → ClassIsWritten (class_of bytes c)
+  class_written c h e = record {
     modifiers = modifiers_written c.modifiers h.modifiers;
     name = name_of_names c.heading.name h.heading.name;
     extends = names_written c.heading.extends h.heading.extends;
     implements = names_written c.heading.implements h.heading.implements;
     fields = fields_written c.members h.members;
-    methods = methods_written c.members h.members;
+    methods = recursion_from_All MethodIsWritten (filter_map (method_in bytes) c.members) (each_in_turn (method_in bytes) (member_fault bytes) (raw.MemberFits P n) MethodIsWritten member_written c.members [] h.members e);
   }

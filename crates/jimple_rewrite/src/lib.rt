@@ -2,8 +2,6 @@
 // the reader stand below.
 #![tactic(auto)]
 
-#[cfg(test)]
-mod tests;
 mod texts;
 
 pub use texts::rewrite;

@@ -3,12 +3,11 @@ use Rattle.std.proofs.Common.{◌≡◌, ℕ, ◌+◌, ◌^◌, ◌<◌, ◌≤�
 use Rattle.std.proofs.lemmas.List.{length-append}
 use Rattle.std.proofs.lemmas.List.Elements.{All-head, All-tail}
 use Rattle.clean_base.specs.declared.fault.InputFault.{InputFault}
-use Rattle.clean_base.specs.declared.fault.InputFault.TheVariants.{TooLong, BadByte, OpenText, Syntax, Unsupported, TooMany, DoubleName, UnknownLocal, UnknownLabel, LimitClasses, DoubleClass, Cycle, LimitMethods, LimitStmts, EntryMissing, NotYet}
 use Rattle.jimple_lex.specs.declared.token.Token.{Token}
 use Rattle.jimple_lex.specs.Lexed.{Lexed, ends, blank, comment, token}
 use Rattle.clean_base.specs.declared.fault.Stop.{Stop}
 use Rattle.clean_base.specs.declared.fault.Stop.TheVariants.{Fault, OutOfMemory}
-use Rattle.jimple_lex.specs.Faults.{bad_byte, open_text, IsLexical, Refused as Unlexed}
+use Rattle.jimple_lex.specs.Faults.{bad_byte, open_text, IsLexical, at_byte, at_open, Refused as Unlexed}
 use Rattle.jimple_tree.specs.declared.tree.Class.{Class}
 use Rattle.jimple_text.specs.Reads.{Gives, Faults}
 use Rattle.jimple_text.specs.Settled.{IsRead, IsRefused, Refused, AreGiven, AreRefused, TokensRefused}
@@ -34,23 +33,9 @@ fits bytes ts us same lexed spans small =
     let long = ap length same in
     (subst (All (IsSpan (length bytes))) (sym same) spans, small, omega (arith, less, long, small))
 
-no_lexical : (number : ℕ) (bytes : List ℕ) (ts : List Token) → Lexed 0 bytes ts → (f : InputFault) → IsLexical number bytes f → ⊥
-no_lexical number bytes ts lexed (TooLong named at) h = h
-no_lexical number bytes ts lexed (BadByte named at) h = h.no_tokens ts lexed
-no_lexical number bytes ts lexed (OpenText named at) h = h.no_tokens ts lexed
-no_lexical number bytes ts lexed (Syntax named at) h = h
-no_lexical number bytes ts lexed (Unsupported named at form) h = h
-no_lexical number bytes ts lexed (TooMany named at) h = h
-no_lexical number bytes ts lexed (DoubleName named at) h = h
-no_lexical number bytes ts lexed (UnknownLocal named at) h = h
-no_lexical number bytes ts lexed (UnknownLabel named at) h = h
-no_lexical number bytes ts lexed LimitClasses h = h
-no_lexical number bytes ts lexed (DoubleClass name) h = h
-no_lexical number bytes ts lexed (Cycle name) h = h
-no_lexical number bytes ts lexed LimitMethods h = h
-no_lexical number bytes ts lexed LimitStmts h = h
-no_lexical number bytes ts lexed EntryMissing h = h
-no_lexical number bytes ts lexed (NotYet named) h = h
+no_lexical : (number : ℕ) (bytes : List ℕ) (ts : List Token) → Lexed 0 bytes ts → {f : InputFault} → IsLexical number bytes f → ⊥
+no_lexical number bytes ts lexed (at_byte h) = h.no_tokens ts lexed
+no_lexical number bytes ts lexed (at_open h) = h.no_tokens ts lexed
 
 module _ (number : ℕ) (bytes : List ℕ) where
   module _ (ts : List Token) (lexed : Lexed 0 bytes ts) (one : (us : List Token) → Lexed 0 bytes us → us ≡ ts) where
@@ -59,7 +44,7 @@ module _ (number : ℕ) (bytes : List ℕ) where
       reads = (ts, lexed, h.gives);
       only = λ others k. h.only others (subst (λ (us : List Token). Gives bytes us others) (one k.0 k.1) k.2);
       no_fault = λ f k. elim k [
-        | inl l ↦ no_lexical number bytes ts lexed f l
+        | inl l ↦ no_lexical number bytes ts lexed l
         | inr t ↦ h.no_fault f (subst (λ (us : List Token). Faults bytes us number f) (one t.0 t.1) t.2)
       ];
     }
@@ -68,7 +53,7 @@ module _ (number : ℕ) (bytes : List ℕ) where
     is_refused f h = record {
       is = inr (ts, lexed, h.is);
       only = λ g k. elim k [
-        | inl l ↦ absurd (no_lexical number bytes ts lexed g l)
+        | inl l ↦ absurd (no_lexical number bytes ts lexed l)
         | inr t ↦ h.only g (subst (λ (us : List Token). Faults bytes us number g) (one t.0 t.1) t.2)
       ];
       no_classes = λ classes k. h.no_classes classes (subst (λ (us : List Token). Gives bytes us classes) (one k.0 k.1) k.2);
@@ -78,65 +63,17 @@ module _ (number : ℕ) (bytes : List ℕ) where
   two_kinds : bad_byte ≡ open_text → ⊥
   two_kinds e = cc
 
-  after_bad : (a at : ℕ) → IsLexical number bytes (BadByte a at) → (g : InputFault) → IsLexical number bytes g → g ≡ BadByte a at
-  after_bad a at h (BadByte b place) k = let same = h.no_other bad_byte place k.first in rw (k.in_file, h.in_file, same.1) refl
-  after_bad a at h (OpenText b place) k = absurd (two_kinds (sym (h.no_other open_text place k.first).0))
-  after_bad a at h (TooLong d b) k = absurd k
-  after_bad a at h (Syntax d b) k = absurd k
-  after_bad a at h (Unsupported d b c) k = absurd k
-  after_bad a at h (TooMany d b) k = absurd k
-  after_bad a at h (DoubleName d b) k = absurd k
-  after_bad a at h (UnknownLocal d b) k = absurd k
-  after_bad a at h (UnknownLabel d b) k = absurd k
-  after_bad a at h LimitClasses k = absurd k
-  after_bad a at h (DoubleClass name) k = absurd k
-  after_bad a at h (Cycle name) k = absurd k
-  after_bad a at h LimitMethods k = absurd k
-  after_bad a at h LimitStmts k = absurd k
-  after_bad a at h EntryMissing k = absurd k
-  after_bad a at h (NotYet d) k = absurd k
+  only_lexical : {f g : InputFault} → IsLexical number bytes f → IsLexical number bytes g → g ≡ f
+  only_lexical (at_byte h) (at_byte k) = let same = h.no_other bad_byte _ k.first in rw (k.in_file, h.in_file, same.1) refl
+  only_lexical (at_byte h) (at_open k) = absurd (two_kinds (sym (h.no_other open_text _ k.first).0))
+  only_lexical (at_open h) (at_byte k) = absurd (two_kinds (h.no_other bad_byte _ k.first).0)
+  only_lexical (at_open h) (at_open k) = let same = h.no_other open_text _ k.first in rw (k.in_file, h.in_file, same.1) refl
 
-  after_open : (a at : ℕ) → IsLexical number bytes (OpenText a at) → (g : InputFault) → IsLexical number bytes g → g ≡ OpenText a at
-  after_open a at h (BadByte b place) k = absurd (two_kinds (h.no_other bad_byte place k.first).0)
-  after_open a at h (OpenText b place) k = let same = h.no_other open_text place k.first in rw (k.in_file, h.in_file, same.1) refl
-  after_open a at h (TooLong d b) k = absurd k
-  after_open a at h (Syntax d b) k = absurd k
-  after_open a at h (Unsupported d b c) k = absurd k
-  after_open a at h (TooMany d b) k = absurd k
-  after_open a at h (DoubleName d b) k = absurd k
-  after_open a at h (UnknownLocal d b) k = absurd k
-  after_open a at h (UnknownLabel d b) k = absurd k
-  after_open a at h LimitClasses k = absurd k
-  after_open a at h (DoubleClass name) k = absurd k
-  after_open a at h (Cycle name) k = absurd k
-  after_open a at h LimitMethods k = absurd k
-  after_open a at h LimitStmts k = absurd k
-  after_open a at h EntryMissing k = absurd k
-  after_open a at h (NotYet d) k = absurd k
-
-  only_lexical : (f g : InputFault) → IsLexical number bytes f → IsLexical number bytes g → g ≡ f
-  only_lexical (BadByte a at) g h k = after_bad a at h g k
-  only_lexical (OpenText a at) g h k = after_open a at h g k
-  only_lexical (TooLong a b) g h k = absurd h
-  only_lexical (Syntax a b) g h k = absurd h
-  only_lexical (Unsupported a b c) g h k = absurd h
-  only_lexical (TooMany a b) g h k = absurd h
-  only_lexical (DoubleName a b) g h k = absurd h
-  only_lexical (UnknownLocal a b) g h k = absurd h
-  only_lexical (UnknownLabel a b) g h k = absurd h
-  only_lexical LimitClasses g h k = absurd h
-  only_lexical (DoubleClass name) g h k = absurd h
-  only_lexical (Cycle name) g h k = absurd h
-  only_lexical LimitMethods g h k = absurd h
-  only_lexical LimitStmts g h k = absurd h
-  only_lexical EntryMissing g h k = absurd h
-  only_lexical (NotYet a) g h k = absurd h
-
-  lexical : (f : InputFault) → IsLexical number bytes f → ((us : List Token) → Lexed 0 bytes us → ⊥) → IsRefused number bytes f
-  lexical f h none = record {
+  lexical : (f : InputFault) → IsLexical number bytes f → IsRefused number bytes f
+  lexical f h = record {
     is = inl h;
-    only = λ g k. elim k [ inl l ↦ only_lexical f g h l | inr t ↦ absurd (none t.0 t.1) ];
-    no_classes = λ classes k. none k.0 k.1;
+    only = λ g k. elim k [ inl l ↦ only_lexical h l | inr t ↦ absurd (no_lexical number bytes t.0 t.1 h) ];
+    no_classes = λ classes k. no_lexical number bytes k.0 k.1 h;
   }
 
   -- what the classes of the tokens, or why there are none, say of the text
@@ -152,20 +89,5 @@ module _ (number : ℕ) (bytes : List ℕ) where
 
   -- the fault below the tokens
   pub unlexed : (stop : Stop) → Unlexed number bytes stop → Refused number bytes stop
-  unlexed (Fault (BadByte named at)) h = lexical (BadByte named at) h h.no_tokens
-  unlexed (Fault (OpenText named at)) h = lexical (OpenText named at) h h.no_tokens
-  unlexed (Fault (TooLong a b)) h = absurd h
-  unlexed (Fault (Syntax a b)) h = absurd h
-  unlexed (Fault (Unsupported a b c)) h = absurd h
-  unlexed (Fault (TooMany a b)) h = absurd h
-  unlexed (Fault (DoubleName a b)) h = absurd h
-  unlexed (Fault (UnknownLocal a b)) h = absurd h
-  unlexed (Fault (UnknownLabel a b)) h = absurd h
-  unlexed (Fault LimitClasses) h = absurd h
-  unlexed (Fault (DoubleClass name)) h = absurd h
-  unlexed (Fault (Cycle name)) h = absurd h
-  unlexed (Fault LimitMethods) h = absurd h
-  unlexed (Fault LimitStmts) h = absurd h
-  unlexed (Fault EntryMissing) h = absurd h
-  unlexed (Fault (NotYet a)) h = absurd h
+  unlexed (Fault f) h = lexical f h
   unlexed OutOfMemory h = tt

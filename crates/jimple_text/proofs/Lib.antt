@@ -1,3 +1,4 @@
 pub mod Left
 pub mod Told
 pub mod Lexed
+pub mod Formed

@@ -8,11 +8,12 @@ use Rattle.jimple_lex.specs.declared.token.Token.{Token}
 use Rattle.jimple_lex.specs.Lexed.{Lexed}
 use Rattle.jimple_lex.specs.Faults.{IsLexical}
 use Rattle.jimple_tree.specs.declared.tree.Class.{Class}
-use Rattle.jimple_grammar.specs.declared.kind.Kind.{Kind}
-use Rattle.jimple_grammar.specs.declared.kind.Kind.TheVariants as kinds
+use Rattle.jimple_words.specs.declared.kind.Kind.{Kind}
+use Rattle.jimple_words.specs.declared.kind.Kind.TheVariants as kinds
 use Rattle.jimple_grammar.specs.declared.lexeme.Lexeme.{Lexeme}
 use Rattle.jimple_grammar.specs.declared.raw.RawClass.{RawClass}
-use Rattle.jimple_grammar.specs.Forms.{unsupported, too_many, word_before, file}
+use Rattle.jimple_grammar.specs.Forms.{file}
+use Rattle.jimple_grammar.specs.Forms as reasons
 use Rattle.jimple_grammar.specs.Grammar.{Spells}
 use Rattle.jimple_grammar.specs.Lexemes.{lexemes}
 use Rattle.jimple_grammar.specs.Stops.{StopsAt}
@@ -64,26 +65,25 @@ module _ (bytes : List ℕ) (tokens : List Token) where
 
   -- It is refused as a word that isn't supported, or the word before it is.
   abbrev pub IsUnsupported : ℕ → Form → Type 0
-  IsUnsupported at form = ((left : List Lexeme) × Stops left (suc unsupported) × (at ≡ place bytes left) × (form ≡ form_in_front left))
-      ⊎ ((left : List Lexeme) × (stops : Stops left (suc word_before)) × (at ≡ last_place stops.front) × (form ≡ forms.MethodConst))
+  IsUnsupported at form = ((left : List Lexeme) × Stops left (suc reasons.unsupported) × (at ≡ place bytes left) × (form ≡ form_in_front left))
+      ⊎ ((left : List Lexeme) × (stops : Stops left (suc reasons.word_before)) × (at ≡ last_place stops.front) × (form ≡ forms.MethodConst))
 
   -- It is refused as a name too many.
   abbrev pub IsTooMany : ℕ → Type 0
-  IsTooMany at = (left : List Lexeme) × Stops left (suc too_many) × (at ≡ place bytes left)
+  IsTooMany at = (left : List Lexeme) × Stops left (suc reasons.too_many) × (at ≡ place bytes left)
 
   -- The tokens spell a file, in which this is the first name that breaks a rule.
   abbrev pub IsNameFault : NameFault → Type 0
   IsNameFault f = (tree : List RawClass) × Spells file (lexemes bytes tokens) tree × (names_fault bytes tree ≡ Some f)
 
-  -- the fault of the tokens of the file of that number
-  abbrev pub Faults : ℕ → InputFault → Type 0
-  Faults number (Syntax named at) = (named ≡ number) × IsSyntax at
-  Faults number (Unsupported named at form) = (named ≡ number) × IsUnsupported at form
-  Faults number (TooMany named at) = (named ≡ number) × IsTooMany at
-  Faults number (DoubleName named at) = (named ≡ number) × IsNameFault (names.DoubleName at)
-  Faults number (UnknownLocal named at) = (named ≡ number) × IsNameFault (names.UnknownLocal at)
-  Faults number (UnknownLabel named at) = (named ≡ number) × IsNameFault (names.UnknownLabel at)
-  Faults number _ = ⊥
+-- the fault of the tokens of the file of that number
+pub data Faults (bytes : List ℕ) (tokens : List Token) (number : ℕ) : InputFault → Type 0 where
+  syntax : {at : ℕ} → IsSyntax bytes tokens at → Faults bytes tokens number (Syntax number at)
+  unsupported : {at : ℕ} {form : Form} → IsUnsupported bytes tokens at form → Faults bytes tokens number (Unsupported number at form)
+  too_many : {at : ℕ} → IsTooMany bytes tokens at → Faults bytes tokens number (TooMany number at)
+  double_name : {at : ℕ} → IsNameFault bytes tokens (names.DoubleName at) → Faults bytes tokens number (DoubleName number at)
+  unknown_local : {at : ℕ} → IsNameFault bytes tokens (names.UnknownLocal at) → Faults bytes tokens number (UnknownLocal number at)
+  unknown_label : {at : ℕ} → IsNameFault bytes tokens (names.UnknownLabel at) → Faults bytes tokens number (UnknownLabel number at)
 
 -- The first fault of the text: that of its bytes below the tokens, and else that of its tokens.
 abbrev pub IsFault : ℕ → List ℕ → InputFault → Type 0

@@ -3,7 +3,5 @@
 #![tactic(auto)]
 
 pub mod read;
-#[cfg(test)]
-mod tests;
 
 pub use read::read_classes;

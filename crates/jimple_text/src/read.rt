@@ -6,16 +6,17 @@ ghost use Rattle.jimple_grammar.specs.declared.raw.RawClass.{RawClass};
 ghost use Rattle.jimple_grammar.specs.Forms.{file as file_form};
 ghost use Rattle.jimple_grammar.specs.Lexemes.{lexemes};
 ghost use Rattle.jimple_grammar.specs.Stops.{Told, IsSettled};
-ghost use Rattle.jimple_text.specs.Reads.{place, form_of, form_in_front, last_place};
+ghost use Rattle.jimple_tree.specs.declared.tree.Class.{Class};
+ghost use Rattle.jimple_text.specs.Reads.{Reads, place, form_of, form_in_front, last_place};
 ghost use Rattle.jimple_text.specs.Settled.{IsRead, Refused, AreGiven, AreRefused, Stopped, TokensRefused, as_input, as_stop};
 ghost use Rattle.jimple_grammar.specs.Gives.{reason_number};
 
 use clean_base::{Form, InputFault, Stop};
-use jimple_grammar::kind::Kind;
 use jimple_grammar::{ParseStop, Reason, kind_of, read_tokens};
 use jimple_lex::{Token, lex};
 use jimple_names::{NameFault, NameStop, name_classes};
 use jimple_tree::Class;
+use jimple_words::kind::Kind;
 use std::alloc::Global;
 
 /// Where the first of the last so many tokens stands, or the end of the text.
@@ -160,6 +161,7 @@ pub fn read_classes(alloc: Global, bytes: &[u8], file: u32) -> Result<Vec<Class>
     requires { length bytes.now < 2 ^ 32 }
     ensures ok { IfOk result (λ cs. IsRead file bytes.now cs.items) }
     ensures well_formed { IfOk result (λ cs. All IsWellFormed cs.items) }
+    ensures formed { (classes : List Class) → Reads bytes.now classes → All IsWellFormed classes }
     ensures err { IfErr result (Refused file bytes.now) }
 {
     let tokens = lex(alloc, bytes, file)?;

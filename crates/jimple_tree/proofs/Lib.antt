@@ -1,5 +1,4 @@
 mod Exact
-mod Words
 mod Segments
 mod Numbers
 mod Lines

@@ -1,6 +1,7 @@
 -- Bodies of methods, their statements in order, and the classes within the limits on both. Well formed classes stand
 -- below.
 use Rattle.std.specs.Prelude.{◌≤◌, List, [], length, Option, Some, None, filter, flat_map, is_some}
+use Rattle.clean_base.specs.Limits.{most_methods, most_stmts}
 use Rattle.jimple_tree.specs.WellFormed.{IsWellFormed}
 use Rattle.jimple_tree.specs.declared.tree.Body.{Body}
 use Rattle.jimple_tree.specs.declared.tree.Class.{Class}
@@ -26,5 +27,5 @@ bodied methods = filter (λ m. is_some m.body) methods
 -- a well formed class within the limits on methods with a body and on statements
 pub record IsWithin (c : Class) : Type 0 where
   pub well_formed : IsWellFormed c
-  pub methods : length (bodied c.methods) ≤ 32768
-  pub statements : length (all_stmts c.methods) ≤ 4194304
+  pub methods : length (bodied c.methods) ≤ most_methods
+  pub statements : length (all_stmts c.methods) ≤ most_stmts

@@ -5,3 +5,5 @@ pub mod Operands
 pub mod Statements
 pub mod Canonical
 pub mod Bodies
+pub mod Printed
+pub mod Signatures

@@ -3,6 +3,7 @@
 use Rattle.std.specs.Prelude.{◌≡◌, ◌≢◌, ℕ, ◌<◌, ◌≤◌, false, List, length, Option, Some, None, All}
 use Rattle.std.specs.List.{AllPairs}
 use Rattle.clean_base.specs.declared.ids.LocalId.{LocalId}
+use Rattle.clean_base.specs.Limits.{most_locals, most_params}
 use Rattle.jimple_tree.specs.declared.tree.Body.{Body}
 use Rattle.jimple_tree.specs.declared.tree.Catch.{Catch}
 use Rattle.jimple_tree.specs.declared.tree.Class.{Class}
@@ -111,7 +112,7 @@ CatchFits b c = TargetFits b c.from × (c.to ≤ length b.stmts) × TargetFits b
 
 pub record BodyFits (b : Body) : Type 0 where
   pub has_statement : 0 < length b.stmts
-  pub locals : length b.locals ≤ 65535
+  pub locals : length b.locals ≤ most_locals
   pub stmts : All (StmtFits b) b.stmts
   pub catches : All (CatchFits b) b.catches
 
@@ -120,7 +121,7 @@ OptionalBodyFits None = Unit {0}
 OptionalBodyFits (Some b) = BodyFits b
 
 pub record MethodFits (m : Method) : Type 0 where
-  pub params : length m.params ≤ 255
+  pub params : length m.params ≤ most_params
   pub body : OptionalBodyFits m.body
 
 -- no two items of the list, at different places, have one key

@@ -5,14 +5,13 @@ mod labels;
 mod names;
 mod operand;
 mod statement;
+mod statements;
 pub mod tree;
 pub mod write;
 
+pub use statements::stmts_of;
 pub use tree::{
     BinOp, Body, Case, Catch, Class, Cond, Field, FieldSig, Given, Imm, Invoke, InvokeKind, JType,
     Local, Method, Place, Rhs, Sig, Stmt,
 };
 pub use write::write_class;
-
-#[cfg(test)]
-mod tests;

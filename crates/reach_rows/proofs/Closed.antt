@@ -5,7 +5,7 @@ use Rattle.std.proofs.lemmas.Bool.{or_parts}
 use Rattle.std.proofs.lemmas.List.{take_more}
 use Rattle.std.proofs.lemmas.List.Elements.{Contains-push_cases}
 use Rattle.std.proofs.lemmas.List.FromFn.{get_or-map-range_with_len}
-use Rattle.reach_rows.specs.Bits.{has_bit, HasBit, Grows, GainsFrom, HasRows, IsSound, IsClosed, IsShaped, IsOwn, IsOwnOnly, lists_of}
+use Rattle.reach_rows.specs.Bits.{has_bit, HasBit, Grows, GainsFrom, HasRows, IsSound, AreClosed, IsClosed, IsShaped, IsOwn, IsOwnOnly, lists_of}
 use Rattle.reach_rows.specs.Closure.{has, IsClosure}
 use Rattle.reach_rows.specs.Graphs.{row, Steps, IsGraph}
 use Rattle.reach_rows.specs.Reaches.{Reaches, here, on}
@@ -42,9 +42,16 @@ module _ (rows : List (List ℕ)) (graph : IsGraph rows) (width : ℕ) (bits : L
       let next = step_within rows graph a b step in
       closed a row_in b c step (column_within (length rows) width bits c shape column_in) (whole new own closed way next column_in)
 
--- the rows from this one on
-abbrev pub ClosedFrom : List (List ℕ) → ℕ → List ℕ → ℕ → Type 0
-ClosedFrom rows width bits passed = (a : ℕ) → a < length rows → length rows ≤ a + passed → HasRows width bits a (row rows a)
+-- one row more
+pub closed_more : (rows : List (List ℕ)) (width i a : ℕ) (order mid new : List ℕ) (grown added : Bool) → i < length order → a ≡ get_or order i 0 → (added ≡ false → new ≡ mid) → (added ≡ false → HasRows width new a (row rows a))
+    → (grown ≡ false → AreClosed rows width mid (take i order)) → (grown || added) ≡ false → AreClosed rows width new (take (i + 1) order)
+closed_more rows width i a order mid new grown added within is same own before none x has =
+    let parts = or_parts grown added none in
+    let next : take (i + 1) order ≡ take i order ++ a ∷ [] = take_more order i 0 within ∙ ap (λ (n : ℕ). take i order ++ n ∷ []) (sym is) in
+    elim (Contains-push_cases (take i order) a x (subst (λ (ns : List ℕ). Contains ns x) next has)) [
+      | inl early ↦ subst (λ (ws : List ℕ). HasRows width ws x (row rows x)) (sym (same parts.1)) (before parts.0 x early)
+      | inr last ↦ subst (λ (n : ℕ). HasRows width new n (row rows n)) last (own parts.1)
+    ]
 
 -- the rows as lists
 pub lists_has : (count width : ℕ) (bits : List ℕ) (a b : ℕ) → a < count → b < count → has (record { count = count; rows = lists_of count width bits }) a b ≡ has_bit width bits a b

@@ -1,5 +1,5 @@
--- What each step of the search for what follows from a node keeps.
-use Rattle.std.proofs.Common.{◌≡◌, ◌↔◌, ℕ, Bool, true, false, IsTrue, cond, ◌+◌, ◌<◌, List, [], ◌∷◌, ◌++◌, length, get_or, set, sym, ap, subst, ◌∙◌, refl, arith, inl, inr, ◌⊎◌}
+-- What each step of the search for what is reached from a node keeps.
+use Rattle.std.proofs.Common.{◌≡◌, ◌↔◌, ℕ, zero, suc, Bool, true, false, IsTrue, cond, ◌+◌, ◌<◌, List, [], ◌∷◌, ◌++◌, length, get_or, set, take, sym, ap, subst, ◌∙◌, refl, arith, inl, inr, ◌⊎◌}
 use Rattle.std.specs.List.{sum_by}
 use Rattle.std.specs.Prelude.{Option, None, Some, IsSome, Contains}
 use Rattle.std.proofs.lemmas.Bool.{false≢true}
@@ -7,11 +7,11 @@ use Rattle.std.proofs.lemmas.List.{length-set, length_push, get_or_default}
 use Rattle.std.proofs.lemmas.List.Elements.{Contains-append_left, Contains-append_right, Contains-append_cases, Contains-push, Contains-push_cases}
 use Rattle.std.proofs.lemmas.List.Sums.{sum_by-set}
 use Rattle.clean_base.specs.Lists.{At}
-use Rattle.reach_rows.specs.Reaches.{Reaches, here, on, Follows}
-use Rattle.reach_rows.specs.Graphs.{row, Steps, IsGraph, IsOnCycle}
-use Rattle.reach_rows.specs.Cycles.{RowSeen, IsFlood, IsAdded}
+use Rattle.reach_rows.specs.Reaches.{Reaches, here, on}
+use Rattle.reach_rows.specs.Graphs.{row, Steps, IsGraph}
+use Rattle.reach_rows.specs.Cycles.{RowSeen, IsFlood, IsAdded, IsSpread, IsWhole}
 use Rattle.reach_rows.proofs.Places.{same_number_or_not, at_set_same, at_set_other, at_of_set}
-use Rattle.reach_rows.proofs.Paths.{reaches_follows, follows_more, steps_to}
+use Rattle.reach_rows.proofs.Paths.{reaches_more, steps_to}
 
 -- the item of a list of one
 only : (a b : ℕ) → Contains (a ∷ []) b → a ≡ b
@@ -63,59 +63,68 @@ added_more xs ys old mid new before between after one other = record {
     start b (inl was) = inl was
     start b (inr new) = inr (Contains-append_left xs ys b new)
 
+-- the node is seen at first
+pub flood_begins : (rows : List (List ℕ)) (a : ℕ) (old new : List Bool) (waiting after : List ℕ) → a < length rows → IsWhole rows old waiting → IsAdded (a ∷ []) old waiting new after → IsFlood rows a old new after
+flood_begins rows a old new waiting after below whole added = record {
+  count = added.count ∙ whole.count;
+  within = λ b there. subst (λ (n : ℕ). n < length rows) (is b there) below;
+  waits = λ b there. subst (λ (n : ℕ). Reaches (Steps rows) a n) (is b there) here;
+  kept = added.kept;
+  start = added.all a (Contains-push [] a);
+  from = λ b at. elim (added.fresh b at) [ inl was ↦ inl was | inr fresh ↦ inr (subst (λ (n : ℕ). Reaches (Steps rows) a n) (only a b fresh.0) here) ];
+  rest = λ b at. elim (added.fresh b at) [ inl was ↦ inr (λ n step. added.kept n (whole.closed b was n step)) | inr fresh ↦ inl fresh.1 ];
+}
+  where
+    is : (b : ℕ) → Contains after b → a ≡ b
+    is b there = elim (added.from b there) [
+      | inl before ↦ absurd (let none = subst (λ (xs : List ℕ). Contains xs b) whole.none before in omega (arith, none.1))
+      | inr new ↦ only a b new
+    ]
+
 -- the last one that waits has its row seen
-module _ (rows : List (List ℕ)) (a : ℕ) (seen new : List Bool) (front after : List ℕ) (next : ℕ) (graph : IsGraph rows) (is : IsFlood rows a seen (front ++ next ∷ [])) (added : IsAdded (row rows next) seen front new after) where
-  below_next : (b : ℕ) → Steps rows next b → Follows (Steps rows) a b
-  below_next b step = elim (is.waits next (Contains-push front next)) [
-    | inl same ↦ reaches_follows (Steps rows) a a b here (subst (λ (n : ℕ). Steps rows n b) same step)
-    | inr follows ↦ follows_more (Steps rows) a next b follows step
-  ]
+module _ (rows : List (List ℕ)) (a : ℕ) (old seen new : List Bool) (front after : List ℕ) (next : ℕ) (graph : IsGraph rows) (is : IsFlood rows a old seen (front ++ next ∷ [])) (added : IsAdded (row rows next) seen front new after) where
+  below_next : (b : ℕ) → Steps rows next b → Reaches (Steps rows) a b
+  below_next b step = reaches_more (Steps rows) a next b (is.waits next (Contains-push front next)) step
 
   row_seen : (b : ℕ) → RowSeen rows seen b → RowSeen rows new b
-  row_seen b old n step = added.kept n (old n step)
+  row_seen b was n step = added.kept n (was n step)
 
   goes_on : (b : ℕ) → Contains (front ++ next ∷ []) b ⊎ RowSeen rows seen b → Contains after b ⊎ RowSeen rows new b
   goes_on b (inl there) = elim (Contains-push_cases front next b there) [
     | inl before ↦ inl (added.waits b before)
     | inr same ↦ inr (λ n step. added.all n (subst (λ (k : ℕ). Steps rows k n) (sym same) step))
   ]
-  goes_on b (inr old) = inr (row_seen b old)
+  goes_on b (inr was) = inr (row_seen b was)
 
-  pub flood_more : IsFlood rows a new after
+  pub flood_more : IsFlood rows a old new after
   flood_more = record {
     count = added.count ∙ is.count;
     within = λ b there. elim (added.from b there) [ inl before ↦ is.within b (Contains-append_left front (next ∷ []) b before) | inr step ↦ steps_to rows next b graph step ];
-    waits = λ b there. elim (added.from b there) [ inl before ↦ is.waits b (Contains-append_left front (next ∷ []) b before) | inr step ↦ inr (below_next b step) ];
-    follows = λ b at. elim (added.fresh b at) [ inl old ↦ is.follows b old | inr fresh ↦ below_next b fresh.0 ];
-    start = goes_on a is.start;
-    rest = λ b at. elim (added.fresh b at) [ inl old ↦ goes_on b (is.rest b old) | inr fresh ↦ inl fresh.1 ];
+    waits = λ b there. elim (added.from b there) [ inl before ↦ is.waits b (Contains-append_left front (next ∷ []) b before) | inr step ↦ below_next b step ];
+    kept = λ b at. added.kept b (is.kept b at);
+    start = added.kept a is.start;
+    from = λ b at. elim (added.fresh b at) [ inl was ↦ is.from b was | inr fresh ↦ inr (below_next b fresh.0) ];
+    rest = λ b at. elim (added.fresh b at) [ inl was ↦ goes_on b (is.rest b was) | inr fresh ↦ inl fresh.1 ];
   }
 
--- where none waits, all that follows is seen
-module _ (rows : List (List ℕ)) (a : ℕ) (seen : List Bool) (is : IsFlood rows a seen []) where
-  all_seen : (b : ℕ) → Contains [] b ⊎ RowSeen rows seen b → RowSeen rows seen b
-  all_seen b (inl there) = absurd (omega (arith, there.1))
-  all_seen b (inr all) = all
-
-  reached_seen : (b c : ℕ) → At seen b true → Reaches (Steps rows) b c → At seen c true
-  reached_seen b c at here = at
-  reached_seen b c at (on {b = by} step rest) = reached_seen by c (all_seen b (is.rest b at) by step) rest
-
-  pub flood_ends : (b : ℕ) → Follows (Steps rows) a b → At seen b true
-  flood_ends b follows = reached_seen follows.by b (all_seen a is.start follows.by follows.step) follows.rest
-
--- and the node follows from itself exactly where it is seen
-pub flood_tells : (rows : List (List ℕ)) (a : ℕ) (seen : List Bool) (read : Bool) → a < length rows → IsFlood rows a seen [] → read ≡ get_or seen a read → IsTrue read ↔ IsOnCycle rows a
-flood_tells rows a seen read within is reads = (λ yes. is.follows a (below, there ∙ yes), λ cycle. sym there ∙ at_true cycle)
+-- where none waits, all that is reached is seen
+pub flood_ends : (rows : List (List ℕ)) (a : ℕ) (old seen : List Bool) (waiting : List ℕ) → waiting ≡ [] → IsFlood rows a old seen waiting → IsSpread rows a old seen × IsWhole rows seen waiting
+flood_ends rows a old seen waiting none is = (
+  record { kept = is.kept; start = is.start; from = is.from },
+  record { count = is.count; none = none; closed = λ b at. all b (is.rest b at) },
+)
   where
-    below : a < length seen
-    below = let long : length seen ≡ length rows = is.count in omega arith
+    all : (b : ℕ) → Contains waiting b ⊎ RowSeen rows seen b → RowSeen rows seen b
+    all b (inl there) = absurd (let nothing = subst (λ (xs : List ℕ). Contains xs b) none there in omega (arith, nothing.1))
+    all b (inr row) = row
 
-    there : get_or seen a true ≡ read
-    there = get_or_default seen a true read below ∙ sym reads
+pub reached_seen : (rows : List (List ℕ)) (seen : List Bool) (waiting : List ℕ) → IsWhole rows seen waiting → (a b : ℕ) → At seen a true → Reaches (Steps rows) a b → At seen b true
+reached_seen rows seen waiting whole a b at here = at
+reached_seen rows seen waiting whole a b at (on {b = by} step rest) = reached_seen rows seen waiting whole by b (whole.closed a at by step) rest
 
-    at_true : IsOnCycle rows a → get_or seen a true ≡ true
-    at_true cycle = (flood_ends rows a seen is a cycle).1
+pub take_none : (n : ℕ) → (let none : List ℕ = [] in take n none ≡ [])
+take_none zero = refl
+take_none (suc n) = refl
 
 -- where a pop gives none, none waits
 pub none_waits : (r : Option ℕ) (waiting : List ℕ) → (0 < length waiting → IsSome r) → ((x : ℕ) → r ≡ Some x → ⊥) → waiting ≡ []

@@ -1,7 +1,9 @@
 pub mod Places
 pub mod Paths
 pub mod Searches
+pub mod Backwards
 pub mod Floods
+pub mod Taken
 pub mod Once
 pub mod Walked
 pub mod Stamped

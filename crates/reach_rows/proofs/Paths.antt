@@ -14,6 +14,10 @@ pub reaches_more : {X : Type 0} (Step : X → X → Type 0) (a b c : X) → Reac
 reaches_more Step a b c here step = on step here
 reaches_more Step a b c (on {b = by} first rest) step = on first (reaches_more Step by b c rest step)
 
+pub reaches_on : {X : Type 0} (Step : X → X → Type 0) (a b c : X) → Reaches Step a b → Reaches Step b c → Reaches Step a c
+reaches_on Step a b c here rest = rest
+reaches_on Step a b c (on {b = by} first way) rest = on first (reaches_on Step by b c way rest)
+
 pub reaches_follows : {X : Type 0} (Step : X → X → Type 0) (a b c : X) → Reaches Step a b → Step b c → Follows Step a c
 reaches_follows Step a b c here step = record { by = c; step = step; rest = here }
 reaches_follows Step a b c (on {b = by} first rest) step = record { by = by; step = first; rest = reaches_more Step by b c rest step }

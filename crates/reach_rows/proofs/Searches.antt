@@ -9,11 +9,11 @@ use Rattle.std.proofs.lemmas.List.Sums.{sum_by-set}
 use Rattle.clean_base.specs.Lists.{At}
 use Rattle.reach_rows.specs.declared.search.Mark.{Mark}
 use Rattle.reach_rows.specs.declared.search.Mark.TheVariants.{Unseen, OnPath, Done}
-use Rattle.reach_rows.specs.Reaches.{Reaches, here}
-use Rattle.reach_rows.specs.Graphs.{row, Steps, IsGraph, IsOrder}
-use Rattle.reach_rows.specs.Search.{IsSearch, weight, to_do, IsLast, HoldsRow, HasSomeCycle}
+use Rattle.reach_rows.specs.Reaches.{Reaches, here, on, Follows}
+use Rattle.reach_rows.specs.Graphs.{row, Steps, IsGraph, IsOnCycle}
+use Rattle.reach_rows.specs.Search.{IsSearchState, IsFinish, weight, to_do, IsLast, SeesRow}
 use Rattle.reach_rows.proofs.Places.{same_number_or_not, at_one, at_set_same, at_set_other, at_of_set, other_of_set, at_push, at_push_cases, place_one, distinct_push, front_lacks, pairs_front, pairs_last}
-use Rattle.reach_rows.proofs.Paths.{reaches_follows, steps_from, steps_to}
+use Rattle.reach_rows.proofs.Paths.{reaches_on, steps_from, steps_to}
 
 unseen_on_path : Unseen ≡ OnPath → ⊥
 unseen_on_path same = cc
@@ -24,19 +24,17 @@ unseen_done same = cc
 on_path_done : OnPath ≡ Done → ⊥
 on_path_done same = cc
 
--- a mark that is neither of the others
-pub on_path_left : (m : Mark) → (m ≡ Unseen → ⊥) → (m ≡ Done → ⊥) → m ≡ OnPath
-on_path_left Unseen seen left = absurd (seen refl)
-on_path_left OnPath seen left = refl
-on_path_left Done seen left = absurd (left refl)
-
 -- nodes with different marks differ
 marks_apart : (marks : List Mark) (a b : ℕ) (m n : Mark) → (m ≡ n → ⊥) → At marks a m → At marks b n → a ≢ b
 marks_apart marks a b m n differ one other same = differ (at_one marks a m n one (subst (λ (k : ℕ). At marks k n) (sym same) other))
 
-module _ (rows : List (List ℕ)) (marks : List Mark) (passed path done : List ℕ) (is : IsSearch rows marks passed path done) (b : ℕ) where
+-- no node turns unseen where the new mark isn't that
+unseen_before : (marks : List Mark) (b : ℕ) (m : Mark) → b < length marks → (m ≡ Unseen → ⊥) → (a : ℕ) → At (set marks b m) a Unseen → At marks a Unseen
+unseen_before marks b m below differ a at = at_of_set marks b m a Unseen at (other_of_set marks b m a Unseen below differ at)
+
+module _ (rows : List (List ℕ)) (marks : List Mark) (passed path done : List ℕ) (is : IsSearchState rows marks passed path done) (b : ℕ) where
   -- goes on to a node that is not seen
-  pub opened : At marks b Unseen → ((a : ℕ) → Contains path a → Reaches (Steps rows) a b) → IsSearch rows (set marks b OnPath) passed (path ++ b ∷ []) done
+  pub opened : At marks b Unseen → ((a : ℕ) → Contains path a → Reaches (Steps rows) a b) → IsSearchState rows (set marks b OnPath) passed (path ++ b ∷ []) done
   opened unseen from = record {
     marks_count = length-set marks b OnPath ∙ is.marks_count;
     passed_count = is.passed_count;
@@ -50,7 +48,8 @@ module _ (rows : List (List ℕ)) (marks : List Mark) (passed path done : List �
     ];
     path_once = distinct_push path b is.path_once (λ there. marks_apart marks b b OnPath Unseen (λ same. unseen_on_path (sym same)) (is.path_marked b there) unseen refl);
     joined = all_pairs_push (Reaches (Steps rows)) path b is.joined (λ k d below. from (get_or path k d) (Contains-get_or path k d below));
-    passed_done = is.passed_done;
+    passed_seen = λ a k front below at. is.passed_seen a k front below (unseen_before marks b OnPath unseen.0 (λ same. unseen_on_path (sym same)) _ at);
+    done_seen = λ a n there step at. is.done_seen a n there step (unseen_before marks b OnPath unseen.0 (λ same. unseen_on_path (sym same)) n at);
     earlier = is.earlier;
   }
     where
@@ -58,8 +57,8 @@ module _ (rows : List (List ℕ)) (marks : List Mark) (passed path done : List �
       on_path a (inl there) = at_set_other marks b OnPath a OnPath (marks_apart marks a b OnPath Unseen (λ same. unseen_on_path (sym same)) (is.path_marked a there) unseen) (is.path_marked a there)
       on_path a (inr same) = subst (λ (k : ℕ). At (set marks b OnPath) k OnPath) same (at_set_same marks b OnPath unseen.0)
 
-  -- takes a longer front of the node's row as done
-  pub passed_more : (at : ℕ) → ((k : ℕ) → k < at → k < length (row rows b) → Contains done (get_or (row rows b) k 0)) → IsSearch rows marks (set passed b at) path done
+  -- takes a longer front of the node's row as seen
+  pub passed_more : (at : ℕ) → ((k : ℕ) → k < at → k < length (row rows b) → At marks (get_or (row rows b) k 0) Unseen → ⊥) → IsSearchState rows marks (set passed b at) path done
   passed_more at fronts = record {
     marks_count = is.marks_count;
     passed_count = length-set passed b at ∙ is.passed_count;
@@ -70,21 +69,59 @@ module _ (rows : List (List ℕ)) (marks : List Mark) (passed path done : List �
     marked_path = is.marked_path;
     path_once = is.path_once;
     joined = is.joined;
-    passed_done = λ a k front below. elim (same_number_or_not a b) [
-      | inl same ↦ subst (λ (n : ℕ). Contains done (get_or (row rows n) k 0)) (sym same) (here_done a k front below same)
-      | inr other ↦ is.passed_done a k (subst (λ (n : ℕ). k < n) (get_or-set_other passed b a at 0 other) front) below
+    passed_seen = λ a k front below unseen. elim (same_number_or_not a b) [
+      | inl same ↦ here_seen a k front below same (subst (λ (n : ℕ). At marks (get_or (row rows n) k 0) Unseen) same unseen)
+      | inr other ↦ is.passed_seen a k (subst (λ (n : ℕ). k < n) (get_or-set_other passed b a at 0 other) front) below unseen
     ];
+    done_seen = is.done_seen;
     earlier = is.earlier;
   }
     where
-      here_done : (a k : ℕ) → k < get_or (set passed b at) a 0 → k < length (row rows a) → a ≡ b → Contains done (get_or (row rows b) k 0)
-      here_done a k front below same =
+      here_seen : (a k : ℕ) → k < get_or (set passed b at) a 0 → k < length (row rows a) → a ≡ b → At marks (get_or (row rows b) k 0) Unseen → ⊥
+      here_seen a k front below same =
           let place : k < length (row rows b) = subst (λ (n : ℕ). k < length (row rows n)) same below in
           let within : b < length passed = let long : length passed ≡ length rows = is.passed_count in let some : b < length rows = steps_from rows b _ (Contains-get_or (row rows b) k 0 place) in omega arith in
           fronts k (subst (λ (n : ℕ). k < n) (get_or-set_same passed b at 0 within) (subst (λ (n : ℕ). k < get_or (set passed b at) n 0) same front)) place
 
+-- a node that is seen is done or on the path
+seen_there : (rows : List (List ℕ)) (marks : List Mark) (passed path done : List ℕ) → IsSearchState rows marks passed path done → (a : ℕ) → a < length rows → (At marks a Unseen → ⊥) → Contains done a ⊎ Contains path a
+seen_there rows marks passed path done is a below seen = by (get_or marks a Done) (within, get_or_default marks a (get_or marks a Done) Done within)
+  where
+    within : a < length marks
+    within = let count : length marks ≡ length rows = is.marks_count in omega arith
+
+    by : (m : Mark) → At marks a m → Contains done a ⊎ Contains path a
+    by Unseen at = absurd (seen at)
+    by OnPath at = inr (is.marked_path a at)
+    by Done at = inl (is.marked_done a at)
+
+-- each node of the path leads to its last one
+pub leads_to_last : (rows : List (List ℕ)) (path front : List ℕ) (a : ℕ) → AllPairs (Reaches (Steps rows)) path → path ≡ front ++ a ∷ [] → (b : ℕ) → Contains path b → Reaches (Steps rows) b a
+leads_to_last rows path front a joined last b there = to (Contains-push_cases front a b (subst (λ (xs : List ℕ). Contains xs b) last there))
+  where
+    to : Contains front b ⊎ (a ≡ b) → Reaches (Steps rows) b a
+    to (inl before) = pairs_last (Reaches (Steps rows)) front a b (subst (AllPairs (Reaches (Steps rows))) last joined) before
+    to (inr same) = subst (λ (n : ℕ). Reaches (Steps rows) n a) same here
+
+-- all that is reached from a node that is done is done too, or the way leads over the path
+module _ (rows : List (List ℕ)) (graph : IsGraph rows) (marks : List Mark) (passed path done : List ℕ) (is : IsSearchState rows marks passed path done) where
+  done_or_path : (a b : ℕ) → Contains done a ⊎ Contains path a → Reaches (Steps rows) a b → Contains done b ⊎ ((z : ℕ) × Contains path z × Reaches (Steps rows) a z)
+  done_or_path a b (inr there) way = inr (a, there, here)
+  done_or_path a _ (inl there) here = inl there
+  done_or_path a b (inl there) (on {b = by} step rest) = elim (done_or_path by b (seen_there rows marks passed path done is by (steps_to rows a by graph step) (is.done_seen a by there step)) rest) [
+    | inl before ↦ inl before
+    | inr over ↦ inr (over.0, over.1, on step over.2)
+  ]
+
+  -- all that follows from the last node of the path, where all of its row is seen
+  pub follows_done : (a b : ℕ) → IsLast path a → SeesRow rows a marks → Follows (Steps rows) a b → IsOnCycle rows a ⊎ Contains done b
+  follows_done a b last sees follows = elim (done_or_path follows.by b (seen_there rows marks passed path done is follows.by (steps_to rows a follows.by graph follows.step) (sees follows.by follows.step)) follows.rest) [
+    | inl before ↦ inr before
+    | inr over ↦ inl (record { by = follows.by; step = follows.step; rest = reaches_on (Steps rows) follows.by over.0 a over.2 (leads_to_last rows path (take (length path - 1) path) a is.joined last over.0 over.1) })
+  ]
+
 -- the last node of the path is done
-module _ (rows : List (List ℕ)) (marks : List Mark) (passed path done : List ℕ) (b : ℕ) (is : IsSearch rows marks passed (path ++ b ∷ []) done) where
+module _ (rows : List (List ℕ)) (marks : List Mark) (passed path done : List ℕ) (b : ℕ) (is : IsSearchState rows marks passed (path ++ b ∷ []) done) where
   last_marked : At marks b OnPath
   last_marked = is.path_marked b (Contains-push path b)
 
@@ -94,8 +131,8 @@ module _ (rows : List (List ℕ)) (marks : List Mark) (passed path done : List �
   other_on_path : (a : ℕ) → Contains path a → a ≢ b
   other_on_path a there same = front_lacks path b is.path_once (subst (Contains path) same there)
 
-  pub closed : HoldsRow rows b done → IsSearch rows (set marks b Done) passed path (done ++ b ∷ [])
-  closed holds = record {
+  pub closed : SeesRow rows b marks → ((n : ℕ) → Follows (Steps rows) b n → IsOnCycle rows b ⊎ Contains done n) → IsSearchState rows (set marks b Done) passed path (done ++ b ∷ [])
+  closed sees follows = record {
     marks_count = length-set marks b Done ∙ is.marks_count;
     passed_count = is.passed_count;
     done_marked = λ a there. marked a (Contains-push_cases done b a there);
@@ -108,8 +145,12 @@ module _ (rows : List (List ℕ)) (marks : List Mark) (passed path done : List �
     marked_path = λ a at. front a (other_of_set marks b Done a OnPath last_marked.0 (λ same. on_path_done (sym same)) at) at;
     path_once = pairs_front (λ x y. x ≢ y) path b is.path_once;
     joined = pairs_front (Reaches (Steps rows)) path b is.joined;
-    passed_done = λ a k passes below. Contains-append_left done (b ∷ []) _ (is.passed_done a k passes below);
-    earlier = λ i a n at step. before a n step i (at_push_cases done b i a at);
+    passed_seen = λ a k passes below at. is.passed_seen a k passes below (unseen _ at);
+    done_seen = λ a n there step at. elim (Contains-push_cases done b a there) [
+      | inl old ↦ is.done_seen a n old step (unseen n at)
+      | inr same ↦ sees n (subst (λ (k : ℕ). Steps rows k n) (sym same) step) (unseen n at)
+    ];
+    earlier = λ i a n at way. before a n way i (at_push_cases done b i a at);
   }
     where
       marked : (a : ℕ) → Contains done a ⊎ (b ≡ a) → At (set marks b Done) a Done
@@ -119,65 +160,51 @@ module _ (rows : List (List ℕ)) (marks : List Mark) (passed path done : List �
       front : (a : ℕ) → a ≢ b → At (set marks b Done) a OnPath → Contains path a
       front a other at = elim (Contains-push_cases path b a (is.marked_path a (at_of_set marks b Done a OnPath at other))) [ inl there ↦ there | inr same ↦ absurd (other (sym same)) ]
 
-      before : (a n : ℕ) → Steps rows a n → (i : ℕ) → At done i a ⊎ ((i ≡ length done) × (b ≡ a)) → (j : ℕ) × (j < i) × At (done ++ b ∷ []) j n
-      before a n step i (inl at) = let there = is.earlier i a n at step in (there.0, there.1, at_push done b there.0 n there.2)
-      before a n step i (inr last) =
-          let there = holds n (subst (λ (k : ℕ). Steps rows k n) (sym last.1) step) in
-          (there.0, (let less : there.0 < length done = there.1 in let end : i ≡ length done = last.0 in omega arith), at_push done b there.0 n (there.1, there.2))
+      unseen : (a : ℕ) → At (set marks b Done) a Unseen → At marks a Unseen
+      unseen = unseen_before marks b Done last_marked.0 (λ same. unseen_done (sym same))
 
-  pub closed_last : (new all : List ℕ) → HoldsRow rows b done → new ≡ path → all ≡ done ++ b ∷ [] → IsSearch rows (set marks b Done) passed new all
-  closed_last new all holds same more = subst (λ (xs : List ℕ). IsSearch rows (set marks b Done) passed xs all) (sym same) (subst (IsSearch rows (set marks b Done) passed path) (sym more) (closed holds))
+      before : (a n : ℕ) → Follows (Steps rows) a n → (i : ℕ) → At done i a ⊎ ((i ≡ length done) × (b ≡ a)) → IsOnCycle rows a ⊎ ((j : ℕ) × (j < i) × At (done ++ b ∷ []) j n)
+      before a n way i (inl at) = elim (is.earlier i a n at way) [ inl cycle ↦ inl cycle | inr there ↦ inr (there.0, there.1, at_push done b there.0 n there.2) ]
+      before a n way i (inr last) = elim (follows n (subst (λ (k : ℕ). Follows (Steps rows) k n) (sym last.1) way)) [
+        | inl cycle ↦ inl (subst (IsOnCycle rows) last.1 cycle)
+        | inr there ↦ inr (there.0, (let less : there.0 < length done = there.1 in let end : i ≡ length done = last.0 in omega arith), at_push done b there.0 n (there.1, there.2))
+      ]
 
--- each node of the path leads to its last one
-pub leads_to_last : (rows : List (List ℕ)) (path front : List ℕ) (a : ℕ) → AllPairs (Reaches (Steps rows)) path → path ≡ front ++ a ∷ [] → (b : ℕ) → Contains path b → Reaches (Steps rows) b a
-leads_to_last rows path front a joined last b there = to (Contains-push_cases front a b (subst (λ (xs : List ℕ). Contains xs b) last there))
-  where
-    to : Contains front b ⊎ (a ≡ b) → Reaches (Steps rows) b a
-    to (inl before) = pairs_last (Reaches (Steps rows)) front a b (subst (AllPairs (Reaches (Steps rows))) last joined) before
-    to (inr same) = subst (λ (n : ℕ). Reaches (Steps rows) n a) same here
+  pub closed_last : (new all : List ℕ) → SeesRow rows b marks → ((n : ℕ) → Follows (Steps rows) b n → IsOnCycle rows b ⊎ Contains done n) → new ≡ path → all ≡ done ++ b ∷ [] → IsSearchState rows (set marks b Done) passed new all
+  closed_last new all sees follows same more = subst (λ (xs : List ℕ). IsSearchState rows (set marks b Done) passed xs all) (sym same) (subst (IsSearchState rows (set marks b Done) passed path) (sym more) (closed sees follows))
 
--- a step to a node of the path closes a cycle
-pub closes_cycle : (rows : List (List ℕ)) (marks : List Mark) (passed path done : List ℕ) → IsSearch rows marks passed path done → (a b : ℕ) → IsLast path a → Steps rows a b → At marks b OnPath → HasSomeCycle rows
-closes_cycle rows marks passed path done is a b last step marked =
-    (b, reaches_follows (Steps rows) b a b (leads_to_last rows path (take (length path - 1) path) a is.joined last b (is.marked_path b marked)) step)
-
--- a search that has seen all has an order
-pub ends : (rows : List (List ℕ)) (marks : List Mark) (passed done : List ℕ) → IsSearch rows marks passed [] done → ((a : ℕ) → a < length rows → At marks a Unseen → ⊥) → IsOrder rows done
+-- a search that has seen all is done with all
+pub ends : (rows : List (List ℕ)) (marks : List Mark) (passed done : List ℕ) → IsSearchState rows marks passed [] done → ((a : ℕ) → a < length rows → At marks a Unseen → ⊥) → IsFinish rows done
 ends rows marks passed done is seen = record {
   all = λ a. ((λ there. let at = is.done_marked a there in let below : a < length marks = at.0 in let count : length marks ≡ length rows = is.marks_count in omega arith), whole a);
   distinct = is.done_once;
-  behind = λ i j a b at other step. let there = is.earlier i a b at step in elim (cases_lt j i) [
-    | inl less ↦ less
-    | inr past ↦ absurd (place_one done there.0 j b is.done_once there.2 other (let less : there.0 < i = there.1 in omega arith))
+  behind = λ i j a b at other way. elim (is.earlier i a b at way) [
+    | inl cycle ↦ inl cycle
+    | inr there ↦ elim (cases_lt j i) [
+      | inl less ↦ inr less
+      | inr past ↦ absurd (place_one done there.0 j b is.done_once there.2 other (let less : there.0 < i = there.1 in omega arith))
+    ]
   ];
 }
   where
-    by : (a : ℕ) (m : Mark) → a < length rows → At marks a m → Contains done a
-    by a Unseen below at = absurd (seen a below at)
-    by a OnPath below at = absurd (let there = is.marked_path a at in omega (arith, there.1))
-    by a Done below at = is.marked_done a at
-
     whole : (a : ℕ) → a < length rows → Contains done a
-    whole a below =
-        let at : a < length marks = let count : length marks ≡ length rows = is.marks_count in omega arith in
-        let m : Mark = get_or marks a Done in
-        by a m below (at, get_or_default marks a m Done at)
+    whole a below = elim (seen_there rows marks passed [] done is a below (seen a below)) [ inl there ↦ there | inr path ↦ absurd (omega (arith, path.1)) ]
 
 -- the front of a row that was passed
-pub front_done : (rows : List (List ℕ)) (marks : List Mark) (passed path done : List ℕ) → IsSearch rows marks passed path done → (b at : ℕ)
-    → ((k : ℕ) → get_or passed b 0 ≤ k → k < at → At marks (get_or (row rows b) k 0) Done) → (k : ℕ) → k < at → k < length (row rows b) → Contains done (get_or (row rows b) k 0)
-front_done rows marks passed path done is b at fronts k before below = elim (cases_lt k (get_or passed b 0)) [
-  | inl old ↦ is.passed_done b k old below
-  | inr new ↦ is.marked_done (get_or (row rows b) k 0) (fronts k new before)
+pub front_seen : (rows : List (List ℕ)) (marks : List Mark) (passed path done : List ℕ) → IsSearchState rows marks passed path done → (b at : ℕ)
+    → ((k : ℕ) → get_or passed b 0 ≤ k → k < at → At marks (get_or (row rows b) k 0) Unseen → ⊥) → (k : ℕ) → k < at → k < length (row rows b) → At marks (get_or (row rows b) k 0) Unseen → ⊥
+front_seen rows marks passed path done is b at fronts k before below = elim (cases_lt k (get_or passed b 0)) [
+  | inl old ↦ is.passed_seen b k old below
+  | inr new ↦ fronts k new before
 ]
 
--- and where all of it was, all of it is done
-pub row_done : (rows : List (List ℕ)) (done : List ℕ) (b at : ℕ) → ((k : ℕ) → k < at → k < length (row rows b) → Contains done (get_or (row rows b) k 0)) → length (row rows b) ≤ at → HoldsRow rows b done
-row_done rows done b at fronts past n step =
+-- and where all of it was, all of it is seen
+pub row_seen : (rows : List (List ℕ)) (marks : List Mark) (b at : ℕ) → ((k : ℕ) → k < at → k < length (row rows b) → At marks (get_or (row rows b) k 0) Unseen → ⊥) → length (row rows b) ≤ at → SeesRow rows b marks
+row_seen rows marks b at fronts past n step unseen =
     let below : step.0 < length (row rows b) = step.1 in
-    subst (Contains done) (get_or_default (row rows b) step.0 0 n step.1 ∙ step.2) (fronts step.0 (omega arith) step.1)
+    fronts step.0 (omega arith) step.1 (subst (λ (k : ℕ). At marks k Unseen) (sym (get_or_default (row rows b) step.0 0 n step.1 ∙ step.2)) unseen)
 
-pub last_is_marked : (rows : List (List ℕ)) (marks : List Mark) (passed path done : List ℕ) → IsSearch rows marks passed path done → (a : ℕ) → IsLast path a → At marks a OnPath
+pub last_is_marked : (rows : List (List ℕ)) (marks : List Mark) (passed path done : List ℕ) → IsSearchState rows marks passed path done → (a : ℕ) → IsLast path a → At marks a OnPath
 last_is_marked rows marks passed path done is a last = is.path_marked a (subst (λ (xs : List ℕ). Contains xs a) (sym last) (Contains-push (take (length path - 1) path) a))
 
 pub closing_lessens : (marks : List Mark) (a : ℕ) → At marks a OnPath → to_do (set marks a Done) < to_do marks
@@ -187,19 +214,8 @@ closing_lessens marks a at =
     omega arith
 
 -- the same, as the row and the count were read
-pub front_read : (rows : List (List ℕ)) (marks : List Mark) (passed path done : List ℕ) → IsSearch rows marks passed path done → (b at from : ℕ) (found : List ℕ)
-    → found ≡ row rows b → from ≡ get_or passed b from → b < length rows → ((k : ℕ) → from ≤ k → k < at → At marks (get_or found k 0) Done) → (k : ℕ) → k < at → k < length (row rows b) → Contains done (get_or (row rows b) k 0)
+pub front_read : (rows : List (List ℕ)) (marks : List Mark) (passed path done : List ℕ) → IsSearchState rows marks passed path done → (b at from : ℕ) (found : List ℕ)
+    → found ≡ row rows b → from ≡ get_or passed b from → b < length rows → ((k : ℕ) → from ≤ k → k < at → At marks (get_or found k 0) Unseen → ⊥) → (k : ℕ) → k < at → k < length (row rows b) → At marks (get_or (row rows b) k 0) Unseen → ⊥
 front_read rows marks passed path done is b at from found same begins below fronts =
     let count : from ≡ get_or passed b 0 = begins ∙ get_or_default passed b from 0 (let long : length passed ≡ length rows = is.passed_count in omega arith) in
-    front_done rows marks passed path done is b at (λ k new before. subst (λ (xs : List ℕ). At marks (get_or xs k 0) Done) same (fronts k (subst (λ (n : ℕ). n ≤ k) (sym count) new) before))
-
--- the mark that was read of a node to which a step leads
-pub next_marked : (rows : List (List ℕ)) (marks : List Mark) (a b : ℕ) (read m : Mark) → IsGraph rows → length marks ≡ length rows → Steps rows a b → read ≡ get_or marks b read → read ≡ m → At marks b m
-next_marked rows marks a b read m graph count step is same =
-    let within : b < length rows = steps_to rows a b graph step in
-    let below : b < length marks = omega arith in
-    (below, get_or_default marks b m read below ∙ sym is ∙ same)
-
-pub open_marked : (rows : List (List ℕ)) (marks : List Mark) (a b : ℕ) (read : Mark) → IsGraph rows → length marks ≡ length rows → Steps rows a b → read ≡ get_or marks b read → (read ≡ Unseen → ⊥) → (At marks b Done → ⊥) → At marks b OnPath
-open_marked rows marks a b read graph count step is seen left =
-    next_marked rows marks a b read OnPath graph count step is (on_path_left read seen (λ same. left (next_marked rows marks a b read Done graph count step is same)))
+    front_seen rows marks passed path done is b at (λ k new before. subst (λ (xs : List ℕ). At marks (get_or xs k 0) Unseen → ⊥) same (fronts k (subst (λ (n : ℕ). n ≤ k) (sym count) new) before))

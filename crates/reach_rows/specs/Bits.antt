@@ -38,7 +38,10 @@ HasRows width bits a nodes = (b c : ℕ) → Contains nodes b → c / 64 < width
 abbrev pub IsSound : List (List ℕ) → ℕ → List ℕ → Type 0
 IsSound rows width bits = (a b : ℕ) → a < length rows → b < length rows → HasBit width bits a b → Reaches (Steps rows) a b
 
--- each row has those of the nodes in its node's row
+-- each of these rows has those of the nodes in its node's row
+abbrev pub AreClosed : List (List ℕ) → ℕ → List ℕ → List ℕ → Type 0
+AreClosed rows width bits nodes = (a : ℕ) → Contains nodes a → HasRows width bits a (row rows a)
+
 abbrev pub IsClosed : List (List ℕ) → ℕ → List ℕ → Type 0
 IsClosed rows width bits = (a : ℕ) → a < length rows → HasRows width bits a (row rows a)
 

@@ -4,6 +4,7 @@ pub mod Graphs
 pub mod Stops
 pub mod Closure
 pub mod Search
+pub mod Backward
 pub mod Cycles
 pub mod Onto
 pub mod Stamps

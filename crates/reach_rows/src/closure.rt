@@ -1,10 +1,13 @@
 // What is reached from each node of a graph, as rows of bits: each row begins with its node's own bit, and takes in those of
-// the nodes to which one step leads from it, until no row grows.
-ghost use Rattle.std.specs.Prelude.{◌≡◌, ◌<◌, ◌≤◌, ◌+◌, ◌*◌, ◌/◌, ℕ, All, IsTrue, false, length, IfOk};
-ghost use Rattle.reach_rows.specs.Bits.{has_bit, HasBit, with_word, total, Grows, GainsFrom, HasRows, IsSound, IsClosed, IsShaped, IsOwn, IsOwnOnly};
+// the nodes to which one step leads from it, until no row grows. The rows are taken in the order in which a search was done
+// with their nodes, so that a graph without cycles has all bits after one pass.
+ghost use Rattle.std.specs.Prelude.{◌≡◌, ◌↔◌, ◌<◌, ◌≤◌, ◌+◌, ◌*◌, ◌/◌, ℕ, All, Contains, IsTrue, false, length, IfOk};
+ghost use Rattle.clean_base.specs.Limits.{most_methods};
+ghost use Rattle.reach_rows.specs.Bits.{has_bit, HasBit, with_word, total, Grows, GainsFrom, HasRows, IsSound, AreClosed, IsClosed, IsShaped, IsOwn, IsOwnOnly};
 ghost use Rattle.reach_rows.specs.Closure.{has, IsClosure};
 ghost use Rattle.reach_rows.specs.Graphs.{row, IsGraph};
 
+use crate::search::finished;
 use clean_base::Seq;
 use std::alloc::{AllocError, Global};
 use std::marker::Model;
@@ -98,33 +101,35 @@ fn grow_row(bits: &mut [u64], width: usize, rows: &[Seq<u32>], a: usize) -> bool
     grown
 }
 
-// The rows of all nodes do, from the last to the first.
-fn grow_all(bits: &mut [u64], width: usize, rows: &[Seq<u32>]) -> bool
+// The rows of these nodes do, one after the other.
+fn grow_all(bits: &mut [u64], width: usize, rows: &[Seq<u32>], order: &[u32]) -> bool
     requires graph { IsGraph rows.now }
     requires fits { IsShaped (length rows.now) width bits.old }
+    requires nodes { All (λ a. a < length rows.now) order.now }
     ensures grows { Grows width bits.old bits.new result }
     ensures sound { IsSound rows.now width bits.old → IsSound rows.now width bits.new }
-    ensures closed { result ≡ false → IsClosed rows.now width bits.new }
+    ensures closed { result ≡ false → AreClosed rows.now width bits.new order.now }
 {
     let mut grown = false;
-    for passed in 0..rows.len() {
-        let added = grow_row(bits, width, rows, rows.len() - 1 - passed);
+    for node in order {
+        let added = grow_row(bits, width, rows, *node as usize);
         grown |= added;
     }
     grown
 }
 
-// The rows grow until none does.
-fn grow(bits: &mut [u64], width: usize, rows: &[Seq<u32>])
+// The rows grow until none does. `order` has all nodes.
+fn grow(bits: &mut [u64], width: usize, rows: &[Seq<u32>], order: &[u32])
     requires graph { IsGraph rows.now }
     requires fits { IsShaped (length rows.now) width bits.old }
+    requires nodes { (a : ℕ) → Contains order.now a ↔ (a < length rows.now) }
     ensures kept { (a b : ℕ) → HasBit width bits.old a b → HasBit width bits.new a b }
     ensures sound { IsSound rows.now width bits.old → IsSound rows.now width bits.new }
     ensures closed { IsClosed rows.now width bits.new }
 {
     let mut grown = true;
     while grown {
-        grown = grow_all(bits, width, rows);
+        grown = grow_all(bits, width, rows, order);
     }
 }
 
@@ -160,28 +165,30 @@ fn set_owns(bits: &mut [u64], count: usize, width: usize)
 }
 
 // Sets the bits of all pairs that are reached.
-fn fill(bits: &mut [u64], width: usize, rows: &[Seq<u32>])
+fn fill(bits: &mut [u64], width: usize, rows: &[Seq<u32>], order: &[u32])
     requires graph { IsGraph rows.now }
     requires fits { IsShaped (length rows.now) width bits.old }
+    requires nodes { (a : ℕ) → Contains order.now a ↔ (a < length rows.now) }
     requires none { All (λ w. w ≡ 0) bits.old }
     ensures sound { IsSound rows.now width bits.new }
     ensures own { IsOwn (length rows.now) width bits.new }
     ensures closed { IsClosed rows.now width bits.new }
 {
     set_owns(bits, rows.len(), width);
-    grow(bits, width, rows);
+    grow(bits, width, rows, order);
 }
 
-/// What is reached from each node of a graph by zero or more steps. The graph has at most 32,768 nodes, whose bits take at
-/// most 128 MB.
+/// What is reached from each node of a graph by zero or more steps. The graph has at most as many nodes as
+/// there may be methods with a body, whose bits take at most 128 MB.
 pub fn close(alloc: Global, rows: &[Seq<u32>]) -> Result<Rows, AllocError>
     requires graph { IsGraph rows.now }
-    requires few { length rows.now ≤ 32768 }
+    requires few { length rows.now ≤ most_methods }
     ensures { IfOk result (λ closure. IsClosure rows.now closure) }
 {
     let count = rows.len();
     let width = count.div_ceil(64);
+    let order = finished(alloc, rows)?;
     let mut bits = no_bits(alloc, count * width)?;
-    fill(bits.as_mut_slice(), width, rows);
+    fill(bits.as_mut_slice(), width, rows, order.as_slice());
     Ok(Rows { count, width, bits })
 }

@@ -2,6 +2,7 @@
 // and depth-first walks. The tables of classes and of methods stand above.
 #![tactic(auto)]
 
+mod backward;
 mod below;
 mod closure;
 mod cycle;
@@ -11,6 +12,3 @@ mod search;
 pub use below::walks;
 pub use closure::{Rows, close};
 pub use ordering::{OrderStop, order};
-
-#[cfg(test)]
-mod tests;

@@ -1,11 +1,10 @@
 // An order of the nodes of a graph without cycles, or the first node on a cycle.
 ghost use Rattle.std.specs.Prelude.{◌<◌, ◌^◌, ℕ, length, IfOk, IfErr};
 ghost use Rattle.reach_rows.specs.Graphs.{IsGraph, IsOrder, IsOnCycle};
-ghost use Rattle.reach_rows.specs.Search.{HasSomeCycle};
 ghost use Rattle.reach_rows.specs.Stops.{HasCycle};
 
 use crate::cycle::first_on_cycle;
-use crate::search::{Stop, order_of};
+use crate::search::finished;
 use clean_base::Seq;
 use std::alloc::Global;
 
@@ -17,19 +16,6 @@ pub enum OrderStop {
     OutOfMemory,
 }
 
-// Why a graph with a cycle has no order.
-fn cycle_of(alloc: Global, rows: &[Seq<u32>]) -> OrderStop
-    requires graph { IsGraph rows.now }
-    requires few { length rows.now < 2 ^ 32 }
-    requires cycle { HasSomeCycle rows.now }
-    ensures { HasCycle rows.now result }
-{
-    match first_on_cycle(alloc, rows) {
-        Ok(node) => OrderStop::Cycle(node),
-        Err(_) => OrderStop::OutOfMemory,
-    }
-}
-
 /// All nodes of a graph, each behind those to which one step leads from it. An error is `Cycle`, exactly where some node is
 /// reached from itself by one or more steps, with the first such node, or want of memory.
 pub fn order(alloc: Global, rows: &[Seq<u32>]) -> Result<Vec<u32>, OrderStop>
@@ -39,9 +25,12 @@ pub fn order(alloc: Global, rows: &[Seq<u32>]) -> Result<Vec<u32>, OrderStop>
     ensures acyclic { IfOk result (λ order. (a : ℕ) → IsOnCycle rows.now a → ⊥) }
     ensures cycle { IfErr result (HasCycle rows.now) }
 {
-    match order_of(alloc, rows) {
-        Ok(order) => Ok(order),
-        Err(Stop::Cycle) => Err(cycle_of(alloc, rows)),
-        Err(Stop::OutOfMemory) => Err(OrderStop::OutOfMemory),
+    let Ok(order) = finished(alloc, rows) else {
+        return Err(OrderStop::OutOfMemory);
+    };
+    match first_on_cycle(alloc, rows, order.as_slice()) {
+        Ok(None) => Ok(order),
+        Ok(Some(node)) => Err(OrderStop::Cycle(node)),
+        Err(_) => Err(OrderStop::OutOfMemory),
     }
 }

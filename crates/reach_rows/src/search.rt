@@ -1,12 +1,13 @@
-// A depth-first search of a whole graph, which finds an order of its nodes or that there is a cycle. `ordering` stands above.
-ghost use Rattle.std.specs.Prelude.{◌≡◌, ◌<◌, ◌≤◌, ◌^◌, ◌↔◌, ℕ, [], length, slice_index, replicate, All, Contains, IsTrue, IfOk, OnOk, IfErr, MatchOption};
+// A depth-first search of a whole graph, which finishes each node behind all that follows from it, unless the node is on a
+// cycle. `ordering` and `closure` stand above.
+ghost use Rattle.std.specs.Prelude.{◌≡◌, ◌<◌, ◌≤◌, ◌^◌, ◌↔◌, ℕ, [], length, slice_index, replicate, All, Contains, IsTrue, IfOk, OnOk, MatchOption};
 ghost use Rattle.clean_base.specs.Lists.{At};
 ghost use Rattle.reach_rows.specs.Reaches.{Reaches};
-ghost use Rattle.reach_rows.specs.Graphs.{IsGraph, IsOrder, Steps};
-ghost use Rattle.reach_rows.specs.Search.{IsStateOf, to_do, KeepsSeen, IsLast, HoldsRow, IsStop};
+ghost use Rattle.reach_rows.specs.Graphs.{IsGraph, Steps};
+ghost use Rattle.reach_rows.specs.Search.{IsStateOf, IsFinish, to_do, KeepsSeen, IsLast, SeesRow};
 
 use clean_base::Seq;
-use std::alloc::{AllocError, AllocFailed, Global};
+use std::alloc::{AllocError, Global};
 
 // How far the search has come with a node.
 #[derive(Clone, Copy)]
@@ -16,42 +17,12 @@ enum Mark {
     Done,
 }
 
-/// Why a search gives no order.
-#[derive(Drop)]
-pub enum Stop {
-    /// Some node is reached from itself.
-    Cycle,
-    OutOfMemory,
-}
-
-impl From<AllocError> for Stop {
-    ghost use Rattle.std.specs.Prelude.{◌≡◌};
-    ghost use Rattle.reach_rows.specs.declared.search.Stop.TheVariants.{OutOfMemory};
-
-    ghost from_gives = { λ _ e. e ≡ OutOfMemory };
-
-    fn from(_e: AllocError) -> Stop {
-        Stop::OutOfMemory
-    }
-}
-
-impl<T: Drop> From<AllocFailed<T>> for Stop {
-    ghost use Rattle.std.specs.Prelude.{◌≡◌};
-    ghost use Rattle.reach_rows.specs.declared.search.Stop.TheVariants.{OutOfMemory};
-
-    ghost from_gives = { λ _ e. e ≡ OutOfMemory };
-
-    fn from(_e: AllocFailed<T>) -> Stop {
-        Stop::OutOfMemory
-    }
-}
-
 // The state of a search.
 #[derive(Drop)]
 struct Search {
     // for each node
     marks: Vec<Mark>,
-    // for each node, how many of the first nodes of its row are known to be done
+    // for each node, how many of the first nodes of its row are known to be seen
     passed: Vec<usize>,
     // from the node where the search began to the one where it is
     path: Vec<u32>,
@@ -102,32 +73,32 @@ impl Search {
         Some(self.path[count - 1])
     }
 
-    fn is_done(&self, node: u32) -> bool
+    fn is_unseen(&self, node: u32) -> bool
         requires { node < length self.now.marks.items }
-        ensures { IsTrue result ↔ At self.now.marks.items node Mark.Done }
+        ensures { IsTrue result ↔ At self.now.marks.items node Mark.Unseen }
     {
         match self.marks[node as usize] {
-            Mark::Done => true,
+            Mark::Unseen => true,
             _ => false,
         }
     }
 
-    // The first place of a row, from this one on, whose node isn't done, or the end of the row.
-    fn first_open(&self, row: &[u32], from: usize) -> usize
+    // The first place of a row, from this one on, whose node isn't seen, or the end of the row.
+    fn first_unseen(&self, row: &[u32], from: usize) -> usize
         requires { All (λ b. b < length self.now.marks.items) row.now }
         ensures within { result ≤ length row.now }
-        ensures passed { (k : ℕ) → from ≤ k → k < result → At self.now.marks.items (slice_index row.now k) Mark.Done }
-        ensures open { result < length row.now → At self.now.marks.items (slice_index row.now result) Mark.Done → ⊥ }
+        ensures passed { (k : ℕ) → from ≤ k → k < result → At self.now.marks.items (slice_index row.now k) Mark.Unseen → ⊥ }
+        ensures unseen { result < length row.now → At self.now.marks.items (slice_index row.now result) Mark.Unseen }
     {
         for at in from..row.len() {
-            if !self.is_done(row[at]) {
+            if self.is_unseen(row[at]) {
                 return at;
             }
         }
         row.len()
     }
 
-    // The first node of the row that isn't done.
+    // The first node of the row that isn't seen.
     fn next(&mut self, rows: &[Seq<u32>], node: u32) -> Option<u32>
         requires graph { IsGraph rows.now }
         requires search { IsStateOf rows.now self.old }
@@ -135,11 +106,11 @@ impl Search {
         ensures search { IsStateOf rows.now self.new }
         ensures marks { self.new.marks.items ≡ self.old.marks.items }
         ensures path { self.new.path.items ≡ self.old.path.items }
-        ensures row { MatchOption result (HoldsRow rows.now node self.new.done.items) (λ b. Steps rows.now node b) }
-        ensures open { MatchOption result (Unit {0}) (λ b. At self.new.marks.items b Mark.Done → ⊥) }
+        ensures row { MatchOption result (SeesRow rows.now node self.new.marks.items) (λ b. Steps rows.now node b) }
+        ensures unseen { MatchOption result (Unit {0}) (λ b. At self.new.marks.items b Mark.Unseen) }
     {
         let row = rows[node as usize].as_slice();
-        let at = self.first_open(row, self.passed[node as usize]);
+        let at = self.first_unseen(row, self.passed[node as usize]);
         if at == row.len() {
             return None;
         }
@@ -148,7 +119,7 @@ impl Search {
     }
 
     // Goes on to a node that is not seen yet.
-    fn open(&mut self, rows: &[Seq<u32>], node: u32) -> Result<(), Stop>
+    fn open(&mut self, rows: &[Seq<u32>], node: u32) -> Result<(), AllocError>
         requires search { IsStateOf rows.now self.old }
         requires unseen { At self.old.marks.items node Mark.Unseen }
         requires from { (a : ℕ) → Contains self.old.path.items a → Reaches (Steps rows.now) a node }
@@ -156,22 +127,21 @@ impl Search {
         ensures seen { OnOk result (KeepsSeen self.old.marks.items self.new.marks.items) }
         ensures marked { OnOk result (At self.new.marks.items node Mark.OnPath) }
         ensures less { OnOk result (to_do self.new.marks.items < to_do self.old.marks.items) }
-        ensures stop { IfErr result (IsStop rows.now) }
     {
         self.marks[node as usize] = Mark::OnPath;
         self.path.push(node)?;
         Ok(())
     }
 
-    // The node where the search is is done, as all of its row is.
-    fn close(&mut self, rows: &[Seq<u32>], node: u32) -> Result<(), Stop>
+    // The node where the search is is done, as all of its row is seen.
+    fn close(&mut self, rows: &[Seq<u32>], node: u32) -> Result<(), AllocError>
+        requires graph { IsGraph rows.now }
         requires search { IsStateOf rows.now self.old }
         requires last { IsLast self.old.path.items node }
-        requires row { HoldsRow rows.now node self.old.done.items }
+        requires row { SeesRow rows.now node self.old.marks.items }
         ensures search { OnOk result (IsStateOf rows.now self.new) }
         ensures seen { OnOk result (KeepsSeen self.old.marks.items self.new.marks.items) }
         ensures less { OnOk result (to_do self.new.marks.items < to_do self.old.marks.items) }
-        ensures stop { IfErr result (IsStop rows.now) }
     {
         let _last = self.path.pop();
         self.marks[node as usize] = Mark::Done;
@@ -179,33 +149,28 @@ impl Search {
         Ok(())
     }
 
-    // One step of the search: to a node of the row that isn't seen, or back where all of the row is done.
-    fn step(&mut self, rows: &[Seq<u32>], node: u32) -> Result<(), Stop>
+    // One step of the search: to a node of the row that isn't seen, or back where all of the row is.
+    fn step(&mut self, rows: &[Seq<u32>], node: u32) -> Result<(), AllocError>
         requires graph { IsGraph rows.now }
         requires search { IsStateOf rows.now self.old }
         requires last { IsLast self.old.path.items node }
         ensures search { OnOk result (IsStateOf rows.now self.new) }
         ensures seen { OnOk result (KeepsSeen self.old.marks.items self.new.marks.items) }
         ensures less { OnOk result (to_do self.new.marks.items < to_do self.old.marks.items) }
-        ensures stop { IfErr result (IsStop rows.now) }
     {
         let Some(next) = self.next(rows, node) else {
             return self.close(rows, node);
         };
-        match self.marks[next as usize] {
-            Mark::Unseen => self.open(rows, next),
-            _ => Err(Stop::Cycle),
-        }
+        self.open(rows, next)
     }
 
     // Goes on until the path is done.
-    fn finish(&mut self, rows: &[Seq<u32>]) -> Result<(), Stop>
+    fn finish(&mut self, rows: &[Seq<u32>]) -> Result<(), AllocError>
         requires graph { IsGraph rows.now }
         requires search { IsStateOf rows.now self.old }
         ensures search { OnOk result (IsStateOf rows.now self.new) }
         ensures path { OnOk result (self.new.path.items ≡ []) }
         ensures seen { OnOk result (KeepsSeen self.old.marks.items self.new.marks.items) }
-        ensures stop { IfErr result (IsStop rows.now) }
     {
         while let Some(node) = self.last() {
             self.step(rows, node)?;
@@ -214,7 +179,7 @@ impl Search {
     }
 
     // Searches from a node, unless it is seen.
-    fn search_from(&mut self, rows: &[Seq<u32>], node: u32) -> Result<(), Stop>
+    fn search_from(&mut self, rows: &[Seq<u32>], node: u32) -> Result<(), AllocError>
         requires graph { IsGraph rows.now }
         requires search { IsStateOf rows.now self.old }
         requires path { self.old.path.items ≡ [] }
@@ -223,7 +188,6 @@ impl Search {
         ensures path { OnOk result (self.new.path.items ≡ []) }
         ensures seen { OnOk result (KeepsSeen self.old.marks.items self.new.marks.items) }
         ensures node { OnOk result (At self.new.marks.items node Mark.Unseen → ⊥) }
-        ensures stop { IfErr result (IsStop rows.now) }
     {
         match self.marks[node as usize] {
             Mark::Unseen => {
@@ -235,12 +199,11 @@ impl Search {
     }
 }
 
-/// All nodes of a graph, each behind those to which one step leads from it.
-pub fn order_of(alloc: Global, rows: &[Seq<u32>]) -> Result<Vec<u32>, Stop>
+/// All nodes of a graph in the order in which a depth-first search is done with them.
+pub fn finished(alloc: Global, rows: &[Seq<u32>]) -> Result<Vec<u32>, AllocError>
     requires graph { IsGraph rows.now }
     requires few { length rows.now < 2 ^ 32 }
-    ensures ok { IfOk result (λ order. IsOrder rows.now order.items) }
-    ensures stop { IfErr result (IsStop rows.now) }
+    ensures { IfOk result (λ order. IsFinish rows.now order.items) }
 {
     let mut search = Search::new(alloc, rows)?;
     for node in 0..rows.len() {

@@ -5,20 +5,20 @@ use Rattle.std.proofs.Math.ListN.{length-set}
 use Rattle.std.proofs.lemmas.List.{map-append}
 use Rattle.clean_base.specs.declared.ids.StmtId.{StmtId}
 use Rattle.entry_tables.specs.Lists.{list_at}
-use Rattle.entry_tables.specs.Tables.{caller_of}
-use Rattle.entry_tables.specs.declared.tables.Caller.{Caller}
+use Rattle.entry_tables.specs.Tables.{call_site}
+use Rattle.entry_tables.specs.declared.tables.CallSite.{CallSite}
 use Rattle.ifds_model.specs.declared.node.Context.{Context}
 use Rattle.ifds_model.specs.declared.node.Item.{Item}
 use Rattle.ifds_model.specs.declared.node.Item.TheVariants.{Join}
 use Rattle.ifds_model.specs.declared.node.Move.TheVariants.{Call}
 use Rattle.ifds_model.specs.Machine.{Machine}
 use Rattle.ifds_model.specs.State.{View, Exited, IsDistinct, IsCaller, IsExit, IsKnown}
-use Rattle.ifds_model.specs.State.{Caller as Waits}
+use Rattle.ifds_model.specs.State.{Caller}
 use Rattle.ifds_model.specs.Events.{TakesIn}
 use Rattle.solver_core.specs.Joins.{call_join}
 use Rattle.solver_core.specs.Numbers.{spread, view_of, context_at, item_of, exited_of, waits_of, live_of, AreNumbers}
 use Rattle.solver_core.specs.declared.edges.Spot.{Spot}
-use Rattle.solver_core.specs.declared.work.Work.{Work}
+use Rattle.solver_core.specs.declared.pending.Pending.{Pending}
 use Rattle.solver_core.proofs.Numbered.{in_map, from_map, one_place}
 use Rattle.solver_core.proofs.OneMove.{called, takes_call, one_already}
 use Rattle.solver_core.proofs.Joining.{number_is, at_number, same_caller, joins_within}
@@ -30,7 +30,7 @@ in_range [] k x has = absurd (omega (arith, has.1))
 in_range (row ∷ rows) zero x has = omega arith
 in_range (row ∷ rows) (suc k) x has = omega (arith, in_range rows k x has)
 
-module _ {F M : Type 0} (P : Machine F M) (cs : List (Context F)) (edges : List (Spot F)) (flights : List (Option (Work F))) (context callee : ℕ) (at : StmtId) (callers : List (List Caller)) (exits : List (List F)) (queue : List (Work F))
+module _ {F M : Type 0} (P : Machine F M) (cs : List (Context F)) (edges : List (Spot F)) (flights : List (Option (Pending F))) (context callee : ℕ) (at : StmtId) (callers : List (List CallSite)) (exits : List (List F)) (queue : List (Pending F))
     (fit : AreNumbers cs callers exits edges queue flights) (below : context < length cs) (there : callee < length cs) where
   abbrev here : Context F
   here = context_at P.root cs context
@@ -38,20 +38,20 @@ module _ {F M : Type 0} (P : Machine F M) (cs : List (Context F)) (edges : List 
   abbrev target : Context F
   target = context_at P.root cs callee
 
-  abbrev item : Work F → Item F
+  abbrev item : Pending F → Item F
   item = item_of P.root cs
 
-  abbrev me : Caller
-  me = caller_of context at
+  abbrev me : CallSite
+  me = call_site context at
 
-  abbrev seen : List M → ℕ → ℕ → ℕ → ℕ → ℕ → List (List Caller) → List (Work F) → View F M
+  abbrev seen : List M → ℕ → ℕ → ℕ → ℕ → ℕ → List (List CallSite) → List (Pending F) → View F M
   seen marks commits lag takes period max_edges calls works = view_of P.root cs calls exits edges works flights marks commits lag takes period max_edges
 
-  module _ (now : List (List Caller)) (later : List (Work F)) (set : now ≡ slice_set callers callee (list_at callers callee ++ me ∷ [])) (joined : later ≡ queue ++ map (call_join context at callee) (list_at exits callee)) where
-    caller_below : (k : ℕ) (c : Caller) → Contains (list_at now k) c → k < length callers → c.caller < length cs
+  module _ (now : List (List CallSite)) (later : List (Pending F)) (set : now ≡ slice_set callers callee (list_at callers callee ++ me ∷ [])) (joined : later ≡ queue ++ map (call_join context at callee) (list_at exits callee)) where
+    caller_below : (k : ℕ) (c : CallSite) → Contains (list_at now k) c → k < length callers → c.caller < length cs
     caller_below k c has within = elim (row_from (waits_of P.root cs) cs callers now callee target me (at_number P.root cs callee there) fit.callers_long set k c has within) [
       | inl was ↦ fit.callers_in k c was
-      | inr same ↦ subst (λ (z : Caller). z.caller < length cs) (sym same.1) below
+      | inr same ↦ subst (λ (z : CallSite). z.caller < length cs) (sym same.1) below
     ]
 
     long : length now ≡ length callers
@@ -81,14 +81,14 @@ module _ {F M : Type 0} (P : Machine F M) (cs : List (Context F)) (edges : List 
 
       not_caller : IsCaller s target here at → ⊥
       not_caller has =
-          let from = from_spread (waits_of P.root cs) cs callers (let z : Waits F = record { callee = target; caller = here; call = at } in z) has in
+          let from = from_spread (waits_of P.root cs) cs callers (let z : Caller F = record { callee = target; caller = here; call = at } in z) has in
           let is = from.is in
-          let same_key : from.key ≡ target = ap (λ (z : Waits F). z.callee) (sym is) in
+          let same_key : from.key ≡ target = ap (λ (z : Caller F). z.callee) (sym is) in
           let number : from.number ≡ callee = number_is cs fit.distinct from.number callee from.key target from.at (at_number P.root cs callee there) same_key in
           let mine : Contains (list_at callers callee) from.entry = subst (λ (n : ℕ). Contains (list_at callers n) from.entry) number from.has in
-          let contexts : context_at P.root cs from.entry.caller ≡ here = ap (λ (z : Waits F). z.caller) (sym is) in
+          let contexts : context_at P.root cs from.entry.caller ≡ here = ap (λ (z : Caller F). z.caller) (sym is) in
           let numbers : from.entry.caller ≡ context = one_place cs fit.distinct P.root from.entry.caller context (fit.callers_in callee from.entry mine) below contexts in
-          fresh (subst (λ (z : Caller). Contains (list_at callers callee) z) (same_caller from.entry me numbers (ap (λ (z : Waits F). z.call) (sym is))) mine)
+          fresh (subst (λ (z : CallSite). Contains (list_at callers callee) z) (same_caller from.entry me numbers (ap (λ (z : Caller F). z.call) (sym is))) mine)
 
       join_once : IsDistinct joins
       join_once = map_distinct item (map (call_join context at callee) (list_at exits callee))
@@ -120,14 +120,14 @@ module _ {F M : Type 0} (P : Machine F M) (cs : List (Context F)) (edges : List 
       call_taken =
           let entries = spread_set (waits_of P.root cs) cs callers now callee target me (at_number P.root cs callee there) fit.callers_long set in
           let same : seen marks commits lag takes period max_edges now later ≡ called P here s at target (spread (waits_of P.root cs) cs now) joins known not_caller entries join_once are =
-          ap (λ (q : List (Work F)). seen marks commits lag takes period max_edges now q) joined
+          ap (λ (q : List (Pending F)). seen marks commits lag takes period max_edges now q) joined
           ∙ ap (λ (q : List (Item F)). record (seen marks commits lag takes period max_edges now queue) { queue = q }) (map-append item queue (map (call_join context at callee) (list_at exits callee))) in
           subst (λ (v : View F M). TakesIn P here (λ m. m ≡ Call at target) s v) (sym same) (takes_call P here s at target (spread (waits_of P.root cs) cs now) joins known not_caller entries join_once are)
 
-  call_was : (now : List (List Caller)) → Contains (list_at callers callee) me → now ≡ callers → (marks : List M) (commits lag takes period max_edges : ℕ)
+  call_was : (now : List (List CallSite)) → Contains (list_at callers callee) me → now ≡ callers → (marks : List M) (commits lag takes period max_edges : ℕ)
       → TakesIn P here (λ m. m ≡ Call at target) (seen marks commits lag takes period max_edges callers queue) (seen marks commits lag takes period max_edges now queue)
   call_was now has same marks commits lag takes period max_edges =
-      subst (λ (calls : List (List Caller)). TakesIn P here (λ m. m ≡ Call at target) (seen marks commits lag takes period max_edges callers queue) (seen marks commits lag takes period max_edges calls queue)) (sym same)
+      subst (λ (calls : List (List CallSite)). TakesIn P here (λ m. m ≡ Call at target) (seen marks commits lag takes period max_edges callers queue) (seen marks commits lag takes period max_edges calls queue)) (sym same)
       (one_already P here (seen marks commits lag takes period max_edges callers queue) (Call at target)
       (inl (in_map live_of cs target (callee, (at_number P.root cs callee there).0, (at_number P.root cs callee there).1)), in_spread (waits_of P.root cs) cs callers callee target me (at_number P.root cs callee there) has))
 
@@ -136,15 +136,15 @@ module _ {F M : Type 0} (P : Machine F M) (cs : List (Context F)) (edges : List 
     abbrev Old : List M → ℕ → ℕ → ℕ → ℕ → ℕ → View F M
     Old marks commits lag takes period max_edges = seen marks commits lag takes period max_edges callers queue
 
-    joined_as : (later : List (Work F)) → later ≡ queue ++ map (call_join context at callee) (list_at exits_now callee) → later ≡ queue ++ map (call_join context at callee) (list_at exits callee)
+    joined_as : (later : List (Pending F)) → later ≡ queue ++ map (call_join context at callee) (list_at exits_now callee) → later ≡ queue ++ map (call_join context at callee) (list_at exits callee)
     joined_as later joined = joined ∙ ap (λ (x : List (List F)). queue ++ map (call_join context at callee) (list_at x callee)) same_exits
 
-    pub call_fit_as : (now : List (List Caller)) (later : List (Work F)) → now ≡ slice_set callers callee (list_at callers callee ++ me ∷ []) → later ≡ queue ++ map (call_join context at callee) (list_at exits_now callee) → AreNumbers cs_now now exits_now edges later flights
+    pub call_fit_as : (now : List (List CallSite)) (later : List (Pending F)) → now ≡ slice_set callers callee (list_at callers callee ++ me ∷ []) → later ≡ queue ++ map (call_join context at callee) (list_at exits_now callee) → AreNumbers cs_now now exits_now edges later flights
     call_fit_as now later set joined =
         subst (λ (x : List (Context F)). AreNumbers x now exits_now edges later flights) (sym same_cs)
         (subst (λ (x : List (List F)). AreNumbers cs now x edges later flights) (sym same_exits) (call_fit now later set (joined_as later joined)))
 
-    pub call_taken_as : (now : List (List Caller)) (later : List (Work F)) → now ≡ slice_set callers callee (list_at callers callee ++ me ∷ []) → later ≡ queue ++ map (call_join context at callee) (list_at exits_now callee)
+    pub call_taken_as : (now : List (List CallSite)) (later : List (Pending F)) → now ≡ slice_set callers callee (list_at callers callee ++ me ∷ []) → later ≡ queue ++ map (call_join context at callee) (list_at exits_now callee)
         → (Contains (list_at callers callee) me → ⊥) → IsDistinct (list_at exits_now callee) → (marks : List M) (commits lag takes period max_edges : ℕ)
         → TakesIn P here (λ m. m ≡ Call at target) (Old marks commits lag takes period max_edges) (view_of P.root cs_now now exits_now edges later flights marks commits lag takes period max_edges)
     call_taken_as now later set joined fresh once marks commits lag takes period max_edges =
@@ -152,7 +152,7 @@ module _ {F M : Type 0} (P : Machine F M) (cs : List (Context F)) (edges : List 
         (subst (λ (x : List (List F)). TakesIn P here (λ m. m ≡ Call at target) (Old marks commits lag takes period max_edges) (view_of P.root cs now x edges later flights marks commits lag takes period max_edges)) (sym same_exits)
         (call_taken now later set (joined_as later joined) fresh (subst (λ (x : List (List F)). IsDistinct (list_at x callee)) same_exits once) marks commits lag takes period max_edges))
 
-    pub call_was_as : (now : List (List Caller)) → Contains (list_at callers callee) me → now ≡ callers → (marks : List M) (commits lag takes period max_edges : ℕ)
+    pub call_was_as : (now : List (List CallSite)) → Contains (list_at callers callee) me → now ≡ callers → (marks : List M) (commits lag takes period max_edges : ℕ)
         → TakesIn P here (λ m. m ≡ Call at target) (Old marks commits lag takes period max_edges) (view_of P.root cs_now now exits_now edges queue flights marks commits lag takes period max_edges)
     call_was_as now has same marks commits lag takes period max_edges =
         subst (λ (x : List (Context F)). TakesIn P here (λ m. m ≡ Call at target) (Old marks commits lag takes period max_edges) (view_of P.root x now exits_now edges queue flights marks commits lag takes period max_edges)) (sym same_cs)

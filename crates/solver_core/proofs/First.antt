@@ -3,7 +3,8 @@ use Rattle.std.specs.Prelude.{◌≡◌, ◌↔◌, ◌<◌, List, [], ◌++◌,
 use Rattle.std.proofs.Common.{arith, sym, ◌∙◌, ap, subst, refl}
 use Rattle.ifds_model.specs.declared.node.Context.{Context}
 use Rattle.ifds_model.specs.declared.node.Node.{Node}
-use Rattle.ifds_model.specs.Machine.{Machine, AppendsSet}
+use Rattle.clean_base.specs.Lists.{AppendsSet}
+use Rattle.ifds_model.specs.Machine.{Machine}
 
 module _ {F M : Type 0} (P : Machine F M) (e : Context F) (same : e ≡ P.root) (one : (n : Node) × ((m : Node) → P.start P.root m ↔ (m ≡ n))) (old xs : List Node) (none : old ≡ []) (added : AppendsSet (P.start e) old xs) where
   all_added : xs ≡ added.0

@@ -6,21 +6,21 @@ use Rattle.std.proofs.lemmas.List.{map-append}
 use Rattle.std.proofs.lemmas.List.Elements.{Contains-append_cases}
 use Rattle.clean_base.specs.declared.ids.StmtId.{StmtId}
 use Rattle.entry_tables.specs.Lists.{list_at}
-use Rattle.entry_tables.specs.Tables.{caller_of}
-use Rattle.entry_tables.specs.declared.tables.Caller.{Caller}
+use Rattle.entry_tables.specs.Tables.{call_site}
+use Rattle.entry_tables.specs.declared.tables.CallSite.{CallSite}
 use Rattle.ifds_model.specs.declared.node.Context.{Context}
 use Rattle.ifds_model.specs.declared.node.Item.{Item}
 use Rattle.ifds_model.specs.declared.node.Item.TheVariants.{Join}
 use Rattle.ifds_model.specs.declared.node.Move.TheVariants.{Exit}
 use Rattle.ifds_model.specs.Machine.{Machine}
 use Rattle.ifds_model.specs.State.{View, Exited, At, IsDistinct, IsCaller, IsExit}
-use Rattle.ifds_model.specs.State.{Caller as Waits}
+use Rattle.ifds_model.specs.State.{Caller}
 use Rattle.ifds_model.specs.Events.{TakesIn}
 use Rattle.ifds_model.proofs.Members.{any_default}
 use Rattle.solver_core.specs.Joins.{exit_join}
-use Rattle.solver_core.specs.Numbers.{spread, view_of, context_at, item_of, exited_of, waits_of, AreNumbers, IsWithin}
+use Rattle.solver_core.specs.Numbers.{spread, view_of, context_at, item_of, exited_of, waits_of, AreNumbers, HasNumbersBelow}
 use Rattle.solver_core.specs.declared.edges.Spot.{Spot}
-use Rattle.solver_core.specs.declared.work.Work.{Work}
+use Rattle.solver_core.specs.declared.pending.Pending.{Pending}
 use Rattle.solver_core.proofs.Numbered.{in_map, from_map, one_place}
 use Rattle.solver_core.proofs.OneMove.{exited, takes_exit, one_already}
 use Rattle.solver_core.proofs.Spread.{in_spread, from_spread, spread_set, map_distinct}
@@ -32,28 +32,28 @@ module _ {F : Type 0} (cs : List (Context F)) (distinct : IsDistinct cs) where
 pub at_number : {F : Type 0} (root : Context F) (cs : List (Context F)) (n : ℕ) → n < length cs → At cs n (context_at root cs n)
 at_number root cs n below = (below, any_default cs n (context_at root cs n) root below)
 
-pub same_caller : (k l : Caller) → k.caller ≡ l.caller → k.call ≡ l.call → k ≡ l
-same_caller k l callers calls = ap (λ (n : ℕ). caller_of n k.call) callers ∙ ap (λ (s : StmtId). caller_of l.caller s) calls
+pub same_caller : (k l : CallSite) → k.caller ≡ l.caller → k.call ≡ l.call → k ≡ l
+same_caller k l callers calls = ap (λ (n : ℕ). call_site n k.call) callers ∙ ap (λ (s : StmtId). call_site l.caller s) calls
 
-pub joins_within : {F X : Type 0} (len : ℕ) (queue later : List (Work F)) (f : X → Work F) (xs : List X) → later ≡ queue ++ map f xs → ((w : Work F) → Contains queue w → IsWithin len w) → ((x : X) → Contains xs x → IsWithin len (f x))
-    → (w : Work F) → Contains later w → IsWithin len w
-joins_within len queue later f xs is within each w has = elim (Contains-append_cases queue (map f xs) w (subst (λ (q : List (Work _)). Contains q w) is has)) [
+pub joins_within : {F X : Type 0} (len : ℕ) (queue later : List (Pending F)) (f : X → Pending F) (xs : List X) → later ≡ queue ++ map f xs → ((w : Pending F) → Contains queue w → HasNumbersBelow len w) → ((x : X) → Contains xs x → HasNumbersBelow len (f x))
+    → (w : Pending F) → Contains later w → HasNumbersBelow len w
+joins_within len queue later f xs is within each w has = elim (Contains-append_cases queue (map f xs) w (subst (λ (q : List (Pending _)). Contains q w) is has)) [
   | inl was ↦ within w was
-  | inr joined ↦ let from = from_map f xs w joined in subst (IsWithin len) (sym from.2) (each from.0 from.1)
+  | inr joined ↦ let from = from_map f xs w joined in subst (HasNumbersBelow len) (sym from.2) (each from.0 from.1)
 ]
 
-module _ {F M : Type 0} (P : Machine F M) (cs : List (Context F)) (edges : List (Spot F)) (flights : List (Option (Work F))) (context : ℕ) (callers : List (List Caller)) (exits : List (List F)) (queue : List (Work F))
+module _ {F M : Type 0} (P : Machine F M) (cs : List (Context F)) (edges : List (Spot F)) (flights : List (Option (Pending F))) (context : ℕ) (callers : List (List CallSite)) (exits : List (List F)) (queue : List (Pending F))
     (fit : AreNumbers cs callers exits edges queue flights) (below : context < length cs) where
   abbrev here : Context F
   here = context_at P.root cs context
 
-  abbrev item : Work F → Item F
+  abbrev item : Pending F → Item F
   item = item_of P.root cs
 
-  abbrev seen : List M → ℕ → ℕ → ℕ → ℕ → ℕ → List (List Caller) → List (List F) → List (Work F) → View F M
+  abbrev seen : List M → ℕ → ℕ → ℕ → ℕ → ℕ → List (List CallSite) → List (List F) → List (Pending F) → View F M
   seen marks commits lag takes period max_edges calls outs works = view_of P.root cs calls outs edges works flights marks commits lag takes period max_edges
 
-  module _ (exit : F) (now : List (List F)) (later : List (Work F)) (set : now ≡ slice_set exits context (list_at exits context ++ exit ∷ [])) (joined : later ≡ queue ++ map (exit_join context exit) (list_at callers context)) where
+  module _ (exit : F) (now : List (List F)) (later : List (Pending F)) (set : now ≡ slice_set exits context (list_at exits context ++ exit ∷ [])) (joined : later ≡ queue ++ map (exit_join context exit) (list_at callers context)) where
     exit_fit : AreNumbers cs callers now edges later flights
     exit_fit = record {
       workers = fit.workers;
@@ -101,12 +101,12 @@ module _ {F M : Type 0} (P : Machine F M) (cs : List (Context F)) (edges : List 
             let k = from_map (exit_join context exit) (list_at callers context) w.0 w.1 in
             (context_at P.root cs k.0.caller, k.0.call, in_spread (waits_of P.root cs) cs callers context here k.0 (at_number P.root cs context below) k.1, w.2 ∙ ap item k.2),
         λ is.
-            let from = from_spread (waits_of P.root cs) cs callers (let z : Waits F = record { callee = here; caller = is.0; call = is.1 } in z) is.2 in
+            let from = from_spread (waits_of P.root cs) cs callers (let z : Caller F = record { callee = here; caller = is.0; call = is.1 } in z) is.2 in
             let entry = from.is in
-            let same_key : from.key ≡ here = ap (λ (z : Waits F). z.callee) (sym entry) in
+            let same_key : from.key ≡ here = ap (λ (z : Caller F). z.callee) (sym entry) in
             let number : from.number ≡ context = number_is cs fit.distinct from.number context from.key here from.at (at_number P.root cs context below) same_key in
             let has : Contains (list_at callers context) from.entry = subst (λ (n : ℕ). Contains (list_at callers n) from.entry) number from.has in
-            let made : i ≡ item (exit_join context exit from.entry) = is.3 ∙ ap (λ (z : Context F). let j : Item F = Join z is.1 here exit in j) (ap (λ (z : Waits F). z.caller) entry) ∙ ap (λ (z : StmtId). let j : Item F = Join (context_at P.root cs from.entry.caller) z here exit in j) (ap (λ (z : Waits F). z.call) entry) in
+            let made : i ≡ item (exit_join context exit from.entry) = is.3 ∙ ap (λ (z : Context F). let j : Item F = Join z is.1 here exit in j) (ap (λ (z : Caller F). z.caller) entry) ∙ ap (λ (z : StmtId). let j : Item F = Join (context_at P.root cs from.entry.caller) z here exit in j) (ap (λ (z : Caller F). z.call) entry) in
             subst (λ (j : Item F). Contains joins j) (sym made) (in_map item (map (exit_join context exit) (list_at callers context)) (exit_join context exit from.entry) (in_map (exit_join context exit) (list_at callers context) from.entry has)),
       )
 
@@ -114,7 +114,7 @@ module _ {F M : Type 0} (P : Machine F M) (cs : List (Context F)) (edges : List 
       exit_taken =
           let there = spread_set exited_of cs exits now context here exit (at_number P.root cs context below) fit.exits_long set in
           let same : seen marks commits lag takes period max_edges callers now later ≡ exited P here s exit (spread exited_of cs now) joins not_exit there join_once are =
-          ap (λ (q : List (Work F)). seen marks commits lag takes period max_edges callers now q) joined
+          ap (λ (q : List (Pending F)). seen marks commits lag takes period max_edges callers now q) joined
           ∙ ap (λ (q : List (Item F)). record (seen marks commits lag takes period max_edges callers now queue) { queue = q }) (map-append item queue (map (exit_join context exit) (list_at callers context))) in
           subst (λ (v : View F M). TakesIn P here (λ m. m ≡ Exit exit) s v) (sym same) (takes_exit P here s exit (spread exited_of cs now) joins not_exit there join_once are)
 
@@ -125,24 +125,24 @@ module _ {F M : Type 0} (P : Machine F M) (cs : List (Context F)) (edges : List 
       (one_already P here (seen marks commits lag takes period max_edges callers exits queue) (Exit exit) (in_spread exited_of cs exits context here exit (at_number P.root cs context below) has))
 
   -- the same where the other tables are only equal to what they were
-  module _ (cs_now : List (Context F)) (callers_now : List (List Caller)) (same_cs : cs_now ≡ cs) (same_callers : callers_now ≡ callers) (exit : F) where
-    pub exit_fit_as : (now : List (List F)) (later : List (Work F)) → now ≡ slice_set exits context (list_at exits context ++ exit ∷ []) → later ≡ queue ++ map (exit_join context exit) (list_at callers_now context) → AreNumbers cs_now callers_now now edges later flights
+  module _ (cs_now : List (Context F)) (callers_now : List (List CallSite)) (same_cs : cs_now ≡ cs) (same_callers : callers_now ≡ callers) (exit : F) where
+    pub exit_fit_as : (now : List (List F)) (later : List (Pending F)) → now ≡ slice_set exits context (list_at exits context ++ exit ∷ []) → later ≡ queue ++ map (exit_join context exit) (list_at callers_now context) → AreNumbers cs_now callers_now now edges later flights
     exit_fit_as now later set joined =
         subst (λ (x : List (Context F)). AreNumbers x callers_now now edges later flights) (sym same_cs)
-        (subst (λ (x : List (List Caller)). AreNumbers cs x now edges later flights) (sym same_callers)
-        (exit_fit exit now later set (joined ∙ ap (λ (x : List (List Caller)). queue ++ map (exit_join context exit) (list_at x context)) same_callers)))
+        (subst (λ (x : List (List CallSite)). AreNumbers cs x now edges later flights) (sym same_callers)
+        (exit_fit exit now later set (joined ∙ ap (λ (x : List (List CallSite)). queue ++ map (exit_join context exit) (list_at x context)) same_callers)))
 
-    pub exit_taken_as : (now : List (List F)) (later : List (Work F)) → now ≡ slice_set exits context (list_at exits context ++ exit ∷ []) → later ≡ queue ++ map (exit_join context exit) (list_at callers_now context)
+    pub exit_taken_as : (now : List (List F)) (later : List (Pending F)) → now ≡ slice_set exits context (list_at exits context ++ exit ∷ []) → later ≡ queue ++ map (exit_join context exit) (list_at callers_now context)
         → (Contains (list_at exits context) exit → ⊥) → IsDistinct (list_at callers_now context) → (marks : List M) (commits lag takes period max_edges : ℕ)
         → TakesIn P here (λ m. m ≡ Exit exit) (seen marks commits lag takes period max_edges callers exits queue) (view_of P.root cs_now callers_now now edges later flights marks commits lag takes period max_edges)
     exit_taken_as now later set joined fresh once marks commits lag takes period max_edges =
         subst (λ (x : List (Context F)). TakesIn P here (λ m. m ≡ Exit exit) (seen marks commits lag takes period max_edges callers exits queue) (view_of P.root x callers_now now edges later flights marks commits lag takes period max_edges)) (sym same_cs)
-        (subst (λ (x : List (List Caller)). TakesIn P here (λ m. m ≡ Exit exit) (seen marks commits lag takes period max_edges callers exits queue) (view_of P.root cs x now edges later flights marks commits lag takes period max_edges)) (sym same_callers)
-        (exit_taken exit now later set (joined ∙ ap (λ (x : List (List Caller)). queue ++ map (exit_join context exit) (list_at x context)) same_callers) fresh (subst (λ (x : List (List Caller)). IsDistinct (list_at x context)) same_callers once) marks commits lag takes period max_edges))
+        (subst (λ (x : List (List CallSite)). TakesIn P here (λ m. m ≡ Exit exit) (seen marks commits lag takes period max_edges callers exits queue) (view_of P.root cs x now edges later flights marks commits lag takes period max_edges)) (sym same_callers)
+        (exit_taken exit now later set (joined ∙ ap (λ (x : List (List CallSite)). queue ++ map (exit_join context exit) (list_at x context)) same_callers) fresh (subst (λ (x : List (List CallSite)). IsDistinct (list_at x context)) same_callers once) marks commits lag takes period max_edges))
 
     pub exit_was_as : (now : List (List F)) → Contains (list_at exits context) exit → now ≡ exits → (marks : List M) (commits lag takes period max_edges : ℕ)
         → TakesIn P here (λ m. m ≡ Exit exit) (seen marks commits lag takes period max_edges callers exits queue) (view_of P.root cs_now callers_now now edges queue flights marks commits lag takes period max_edges)
     exit_was_as now has same marks commits lag takes period max_edges =
         subst (λ (x : List (Context F)). TakesIn P here (λ m. m ≡ Exit exit) (seen marks commits lag takes period max_edges callers exits queue) (view_of P.root x callers_now now edges queue flights marks commits lag takes period max_edges)) (sym same_cs)
-        (subst (λ (x : List (List Caller)). TakesIn P here (λ m. m ≡ Exit exit) (seen marks commits lag takes period max_edges callers exits queue) (view_of P.root cs x now edges queue flights marks commits lag takes period max_edges)) (sym same_callers)
+        (subst (λ (x : List (List CallSite)). TakesIn P here (λ m. m ≡ Exit exit) (seen marks commits lag takes period max_edges callers exits queue) (view_of P.root cs x now edges queue flights marks commits lag takes period max_edges)) (sym same_callers)
         (exit_was exit now has same marks commits lag takes period max_edges))

@@ -1,11 +1,11 @@
 -- A commit, by numbers: room was made, the worker's hand was emptied, and the moves were taken in.
-use Rattle.std.specs.Prelude.{◌≡◌, ◌<◌, ◌≤◌, ℕ, ◌+◌, min, List, length, map, slice_set, Contains, Option, Some, None, IfSome, IfNone}
+use Rattle.std.specs.Prelude.{◌≡◌, ◌↔◌, ◌<◌, ◌≤◌, ℕ, ◌+◌, min, Bool, IsTrue, is_some, List, length, map, slice_set, slice_index_or, Contains, Option, Some, None, IfSome, IfNone}
 use Rattle.std.specs.List.{sum_by}
 use Rattle.std.proofs.Common.{arith, sym, ◌∙◌, ap, subst, inl, inr, refl}
 use Rattle.std.proofs.Math.ListN.{length-set}
 use Rattle.std.proofs.lemmas.List.{length-map, map-set}
 use Rattle.clean_base.specs.declared.ids.MethodId.{MethodId}
-use Rattle.entry_tables.specs.declared.tables.Caller.{Caller}
+use Rattle.entry_tables.specs.declared.tables.CallSite.{CallSite}
 use Rattle.ifds_model.specs.declared.node.Context.{Context}
 use Rattle.ifds_model.specs.declared.node.Frame.{Frame}
 use Rattle.ifds_model.specs.declared.node.Item.{Item}
@@ -18,10 +18,11 @@ use Rattle.ifds_model.specs.State.{View, At, context_of, MovesOf, IsHeld}
 use Rattle.ifds_model.specs.Events.{commits_of, LeadsTo, TakesIn, landed, Commits}
 use Rattle.ifds_model.proofs.Composed.{takes_both, takes_none}
 use Rattle.ifds_model.proofs.Kept.{commit_kept}
+use Rattle.ifds_model.proofs.Requeued.{none_apart}
 use Rattle.ifds_model.proofs.Members.{same_count, at_one, at_set, any_default}
 use Rattle.solver_core.specs.Answers.{IsStopped}
 use Rattle.solver_core.specs.Gathered.{IsNew, IsNewTo, KeepsWithin, IsPassed}
-use Rattle.solver_core.specs.Numbers.{context_at, item_of, flight_of, place, view_of, AreNumbers, IsWithin}
+use Rattle.solver_core.specs.Numbers.{context_at, item_of, flight_of, place, view_of, AreNumbers, HasNumbersBelow}
 use Rattle.solver_core.specs.Room.{IsOf, IsSame, edges_of}
 use Rattle.solver_core.specs.Seen.{view_of_parts, AreFit, IsRight, TakesInParts}
 use Rattle.solver_core.specs.declared.answer.CommitStop.{CommitStop}
@@ -29,37 +30,46 @@ use Rattle.solver_core.specs.declared.answer.CommitStop.TheVariants.{EdgeLimit, 
 use Rattle.solver_core.specs.declared.edges.Spot.{Spot}
 use Rattle.solver_core.specs.declared.parts.Parts.{Parts}
 use Rattle.solver_core.specs.declared.ready.Ready.{Ready}
-use Rattle.solver_core.specs.declared.work.Work.{Work}
-use Rattle.solver_core.specs.declared.work.Work.TheVariants.{Edge as WorkEdge, Join as WorkJoin}
+use Rattle.solver_core.specs.declared.pending.Pending.{Pending}
+use Rattle.solver_core.specs.declared.pending.Pending.TheVariants.{Edge as PendingEdge, Join as PendingJoin}
 use Rattle.solver_core.proofs.Answered.{live_member}
 use Rattle.solver_core.proofs.Counted.{held_once, live_once}
-use Rattle.solver_core.proofs.Flown.{at_map_from}
+use Rattle.solver_core.proofs.Flown.{at_map, at_map_from}
 use Rattle.solver_core.proofs.Numbered.{in_map, from_map}
 
+-- a hand that has a work has its item
+pub flies_where : {F : Type 0} (root : Context F) (cs : List (Context F)) (flights : List (Option (Pending F))) (w : ℕ) (o : Option (Pending F)) (busy : Bool) → w < length (map (flight_of root cs) flights) → o ≡ slice_index_or flights w o → busy ≡ is_some o
+    → IsTrue busy ↔ ((item : Item F) × At (map (flight_of root cs) flights) w (Some item))
+flies_where {F} root cs flights w o busy below is tested = subst (λ (b : Bool). IsTrue b ↔ ((item : Item F) × At (map (flight_of root cs) flights) w (Some item))) (sym tested) (by o (omega (arith, length-map flights (flight_of root cs), below), sym is))
+  where
+    by : (p : Option (Pending F)) → At flights w p → IsTrue (is_some p) ↔ ((item : Item F) × At (map (flight_of root cs) flights) w (Some item))
+    by (Some v) at = ((λ yes. (item_of root cs v, at_map (flight_of root cs) flights w (Some v) at)), (λ flies. refl))
+    by None at = ((λ no. cc (no)), (λ flies. absurd (none_apart flies.0 (at_one (map (flight_of root cs) flights) w None (Some flies.0) (at_map (flight_of root cs) flights w None at) flies.1))))
+
 -- what a hand holds, seen as an item
-module _ {F : Type 0} (root : Context F) (cs : List (Context F)) (flights : List (Option (Work F))) (w : ℕ) (item : Item F) (flies : At (map (flight_of root cs) flights) w (Some item)) where
+module _ {F : Type 0} (root : Context F) (cs : List (Context F)) (flights : List (Option (Pending F))) (w : ℕ) (item : Item F) (flies : At (map (flight_of root cs) flights) w (Some item)) where
   pub flown_below : w < length flights
   flown_below = (at_map_from (flight_of root cs) flights w (Some item) None flies).0
 
-  seen : (o : Option (Work F)) → At flights w o → flight_of root cs o ≡ Some item
+  seen : (o : Option (Pending F)) → At flights w o → flight_of root cs o ≡ Some item
   seen o at = sym (ap (flight_of root cs) (any_default flights w None o flown_below ∙ at.1)) ∙ (at_map_from (flight_of root cs) flights w (Some item) None flies).1
 
   pub not_idle : At flights w None → ⊥
   not_idle at = let same = seen None at in cc (same)
 
-  pub flown_item : (work : Work F) → At flights w (Some work) → item_of root cs work ≡ item
+  pub flown_item : (work : Pending F) → At flights w (Some work) → item_of root cs work ≡ item
   flown_item work at = let same = seen (Some work) at in cc (same)
 
-pub place_context : {F : Type 0} (root : Context F) (cs : List (Context F)) (work : Work F) → context_at root cs (place work) ≡ context_of (item_of root cs work)
-place_context root cs (WorkEdge c m f) = refl
-place_context root cs (WorkJoin c at k x) = refl
+pub place_context : {F : Type 0} (root : Context F) (cs : List (Context F)) (work : Pending F) → context_at root cs (place work) ≡ context_of (item_of root cs work)
+place_context root cs (PendingEdge c m f) = refl
+place_context root cs (PendingJoin c at k x) = refl
 
-pub place_within : {F : Type 0} (n : ℕ) (work : Work F) → IsWithin n work → place work < n
-place_within n (WorkEdge c m f) within = within
-place_within n (WorkJoin c at k x) within = within.0
+pub place_within : {F : Type 0} (n : ℕ) (work : Pending F) → HasNumbersBelow n work → place work < n
+place_within n (PendingEdge c m f) within = within
+place_within n (PendingJoin c at k x) within = within.0
 
 -- a hand that isn't idle gives its work
-pub emptied_hand : {F : Type 0} (r : Option (Work F)) (idle A : Type 0) → (idle → ⊥) → IfNone r idle → IfSome r (λ v. A) → A
+pub emptied_hand : {F : Type 0} (r : Option (Pending F)) (idle A : Type 0) → (idle → ⊥) → IfNone r idle → IfSome r (λ v. A) → A
 emptied_hand None idle A busy none some = absurd (busy none)
 emptied_hand (Some v) idle A busy none some = some
 
@@ -71,10 +81,10 @@ pub lag_is : (lag late next period top : ℕ) → next ≡ min (lag + 1) top →
 lag_is lag late next period top sum least within = omega (arith, sum, least, within)
 
 -- a hand that is emptied
-pub emptied_fit : {F : Type 0} (cs : List (Context F)) (callers : List (List Caller)) (exits : List (List F)) (edges : List (Spot F)) (queue : List (Work F)) (flights now : List (Option (Work F))) (w : ℕ) → w < length flights → now ≡ slice_set flights w None
+pub emptied_fit : {F : Type 0} (cs : List (Context F)) (callers : List (List CallSite)) (exits : List (List F)) (edges : List (Spot F)) (queue : List (Pending F)) (flights now : List (Option (Pending F))) (w : ℕ) → w < length flights → now ≡ slice_set flights w None
     → AreNumbers cs callers exits edges queue flights → AreNumbers cs callers exits edges queue now
 emptied_fit {F} cs callers exits edges queue flights now w below set fit = subst (AreNumbers cs callers exits edges queue) (sym set) (record {
-  workers = omega (arith, fit.workers, length-set {A = Option (Work F)});
+  workers = omega (arith, fit.workers, length-set {A = Option (Pending F)});
   distinct = fit.distinct;
   callers_long = fit.callers_long;
   exits_long = fit.exits_long;
@@ -92,20 +102,20 @@ module _ {F M : Type 0} (P : Machine F M) (s t : Parts F M) (same : IsSame s t) 
   pub same_view : (commits lag takes period max_edges : ℕ) → view_of_parts P t commits lag takes period max_edges ≡ view_of_parts P s commits lag takes period max_edges
   same_view commits lag takes period max_edges =
       ap (λ (x : List (Context F)). view_of P.root x t.tables.callers t.tables.exits t.edges.edges t.queue.items t.flights.items t.marks.items commits lag takes period max_edges) same.contexts
-      ∙ ap (λ (x : List (List Caller)). view_of P.root s.tables.contexts x t.tables.exits t.edges.edges t.queue.items t.flights.items t.marks.items commits lag takes period max_edges) same.callers
+      ∙ ap (λ (x : List (List CallSite)). view_of P.root s.tables.contexts x t.tables.exits t.edges.edges t.queue.items t.flights.items t.marks.items commits lag takes period max_edges) same.callers
       ∙ ap (λ (x : List (List F)). view_of P.root s.tables.contexts s.tables.callers x t.edges.edges t.queue.items t.flights.items t.marks.items commits lag takes period max_edges) same.exits
       ∙ ap (λ (x : List (Spot F)). view_of P.root s.tables.contexts s.tables.callers s.tables.exits x t.queue.items t.flights.items t.marks.items commits lag takes period max_edges) same.edges
-      ∙ ap (λ (x : List (Work F)). view_of P.root s.tables.contexts s.tables.callers s.tables.exits s.edges.edges x t.flights.items t.marks.items commits lag takes period max_edges) same.queue
+      ∙ ap (λ (x : List (Pending F)). view_of P.root s.tables.contexts s.tables.callers s.tables.exits s.edges.edges x t.flights.items t.marks.items commits lag takes period max_edges) same.queue
       ∙ ap (λ x. view_of P.root s.tables.contexts s.tables.callers s.tables.exits s.edges.edges s.queue.items x.items t.marks.items commits lag takes period max_edges) same.flights
       ∙ ap (λ (x : List M). view_of P.root s.tables.contexts s.tables.callers s.tables.exits s.edges.edges s.queue.items s.flights.items x commits lag takes period max_edges) same.marks
 
   pub same_fit : AreFit s → AreFit t
   same_fit fit =
       subst (λ (x : List (Context F)). AreNumbers x t.tables.callers t.tables.exits t.edges.edges t.queue.items t.flights.items) (sym same.contexts)
-      (subst (λ (x : List (List Caller)). AreNumbers s.tables.contexts x t.tables.exits t.edges.edges t.queue.items t.flights.items) (sym same.callers)
+      (subst (λ (x : List (List CallSite)). AreNumbers s.tables.contexts x t.tables.exits t.edges.edges t.queue.items t.flights.items) (sym same.callers)
       (subst (λ (x : List (List F)). AreNumbers s.tables.contexts s.tables.callers x t.edges.edges t.queue.items t.flights.items) (sym same.exits)
       (subst (λ (x : List (Spot F)). AreNumbers s.tables.contexts s.tables.callers s.tables.exits x t.queue.items t.flights.items) (sym same.edges)
-      (subst (λ (x : List (Work F)). AreNumbers s.tables.contexts s.tables.callers s.tables.exits s.edges.edges x t.flights.items) (sym same.queue)
+      (subst (λ (x : List (Pending F)). AreNumbers s.tables.contexts s.tables.callers s.tables.exits s.edges.edges x t.flights.items) (sym same.queue)
       (subst (λ x. AreNumbers s.tables.contexts s.tables.callers s.tables.exits s.edges.edges s.queue.items x.items) (sym same.flights) fit)))))
 
 -- moves that are the same are taken in alike
@@ -164,7 +174,7 @@ module _ {F M : Type 0} (P : Machine F M) (s t : Parts F M) (same : IsSame s t) 
         ∙ ap (λ x. view_of P.root t.tables.contexts t.tables.callers t.tables.exits x.edges mid.queue.items mid.flights.items mid.marks.items counted late takes period max_edges) edges
         ∙ ap (λ x. view_of P.root t.tables.contexts t.tables.callers t.tables.exits t.edges.edges x.items mid.flights.items mid.marks.items counted late takes period max_edges) queue
         ∙ ap (λ x. view_of P.root t.tables.contexts t.tables.callers t.tables.exits t.edges.edges t.queue.items mid.flights.items x.items counted late takes period max_edges) marks
-        ∙ ap (λ (x : List (Option (Work F))). view_of P.root t.tables.contexts t.tables.callers t.tables.exits t.edges.edges t.queue.items x t.marks.items counted late takes period max_edges) emptied
+        ∙ ap (λ (x : List (Option (Pending F))). view_of P.root t.tables.contexts t.tables.callers t.tables.exits t.edges.edges t.queue.items x t.marks.items counted late takes period max_edges) emptied
         ∙ ap (λ (x : List (Option (Item F))). record (view_of_parts P t counted late takes period max_edges) { flights = x }) (map-set (flight_of P.root t.tables.contexts) t.flights.items w None)
         ∙ ap (λ (v : View F M). record v { flights = slice_set v.flights w None }) (same_view P s t same counted late takes period max_edges)
         ∙ ap (λ (n : ℕ). record Old { flights = slice_set Old.flights w None; commits = n; lag = late }) counts

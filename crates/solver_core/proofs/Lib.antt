@@ -5,6 +5,7 @@ mod Prepared
 mod MovesTaken
 pub mod Counted
 mod Landed
+mod Landing
 mod First
 mod Moved
 mod Opened

@@ -10,7 +10,8 @@ use Rattle.ifds_model.specs.declared.node.Move.{Move}
 use Rattle.ifds_model.specs.declared.node.Move.TheVariants.{Go, Call}
 use Rattle.ifds_model.specs.Count.{one_count}
 use Rattle.ifds_model.specs.Events.{LeadsTo, TakesIn, landed}
-use Rattle.ifds_model.specs.Machine.{Machine, AppendsSet}
+use Rattle.clean_base.specs.Lists.{AppendsSet}
+use Rattle.ifds_model.specs.Machine.{Machine}
 use Rattle.ifds_model.specs.Outcome.{AreMovesOf}
 use Rattle.ifds_model.specs.Runs.{opened, HasCount}
 use Rattle.ifds_model.specs.State.{View, At, Known, at_node, context_of, MovesOf, IsHeld, IsKnown}

@@ -18,6 +18,7 @@ use Rattle.ifds_model.specs.State.{View, Caller, Exited, IsDistinct, at_node, ed
 use Rattle.ifds_model.specs.Sound.{IsTaken}
 use Rattle.ifds_model.specs.Events.{TakesIn}
 use Rattle.ifds_model.proofs.Begun.{same_edge, join_apart}
+use Rattle.ifds_model.proofs.Composed.{takes_none}
 use Rattle.ifds_model.proofs.Members.{empty_count, one_member}
 
 only_one : {X : Type 0} (x y : X) → Contains (x ∷ []) y → y ≡ x
@@ -27,37 +28,40 @@ none_in : {X : Type 0} (y : X) → (let no : List X = [] in Contains no y) → �
 none_in y has = omega (arith, has.1)
 
 module _ {F M : Type 0} (P : Machine F M) (e : Context F) (s : View F M) where
+  nothing : TakesIn P e (λ m. ⊥) s s
+  nothing = takes_none P e (λ m. ⊥) s (λ m none. none)
+
   no_new_edge : HasCount (λ (a : Frame F). IsHeld s a × (IsHeld s a → ⊥)) 0
   no_new_edge = empty_count (λ (a : Frame F). IsHeld s a × (IsHeld s a → ⊥)) (λ a is. is.1 is.0)
 
   -- moves whose outcome is there change nothing
   pub taken_already : (moves : Move F M → Type 0) → ((m : Move F M) → moves m → IsTaken s e m) → TakesIn P e moves s s
   taken_already moves taken = record {
-    live = λ d k. k;
-    retired = λ d k. k;
-    held = λ x k. k;
-    callers = λ d c at k. k;
-    exits = λ d x k. k;
-    marks = λ x k. k;
+    live = nothing.live;
+    retired = nothing.retired;
+    held = nothing.held;
+    callers = nothing.callers;
+    exits = nothing.exits;
+    marks = nothing.marks;
     taken = taken;
-    started = λ d k. inl k;
+    started = nothing.started;
     live_from = λ d k. inl k;
-    retired_from = λ d k. k;
+    retired_from = nothing.retired_from;
     held_from = λ x k. inl k;
     callers_from = λ d c at k. inl k;
     exits_from = λ d x k. inl k;
     marks_from = λ x k. inl k;
-    added = [];
-    queue = sym (append-nil s.queue);
-    once = λ i j d below within. absurd (omega arith);
-    queued = λ x k. inl k;
-    met = λ d c at x call exit. inl (call, exit);
-    edges_from = λ x k. absurd (none_in (edge_item x) k);
-    joins_from = λ c at d x k. absurd (none_in (let i : Item F = Join c at d x in i) k);
-    more = 0;
-    counted = no_new_edge;
-    found = omega arith;
-    rest = refl;
+    added = nothing.added;
+    queue = nothing.queue;
+    once = nothing.once;
+    queued = nothing.queued;
+    met = nothing.met;
+    edges_from = nothing.edges_from;
+    joins_from = nothing.joins_from;
+    more = nothing.more;
+    counted = nothing.counted;
+    found = nothing.found;
+    rest = nothing.rest;
   }
 
   pub one_already : (move : Move F M) → IsTaken s e move → TakesIn P e (λ m. m ≡ move) s s

@@ -1,8 +1,8 @@
 -- A call of a context that isn't known: the context becomes known, its starts are taken in as moves of its own, and then
 -- it is a known context that is called.
 use Rattle.std.specs.Prelude.{◌≡◌, ◌≢◌, ◌⊎◌, ◌+◌, false, true, List, [], ◌∷◌, ◌++◌, Contains}
-use Rattle.std.proofs.Common.{arith, sym, ◌∙◌, ap, subst, inl, inr, refl, length-append, append_assoc}
-use Rattle.std.proofs.lemmas.List.Elements.{Contains-push_cases, Contains-append_left, Contains-append_right, Contains-append_cases}
+use Rattle.std.proofs.Common.{arith, sym, ◌∙◌, ap, subst, inl, inr, refl, append_assoc}
+use Rattle.std.proofs.lemmas.List.Elements.{Contains-push, Contains-push_cases, Contains-append_left, Contains-append_right, Contains-append_cases}
 use Rattle.clean_base.specs.declared.ids.StmtId.{StmtId}
 use Rattle.ifds_model.specs.declared.node.Context.{Context}
 use Rattle.ifds_model.specs.declared.node.Frame.{Frame}
@@ -12,10 +12,12 @@ use Rattle.ifds_model.specs.declared.node.Node.{Node}
 use Rattle.ifds_model.specs.declared.node.Move.{Move}
 use Rattle.ifds_model.specs.declared.node.Move.TheVariants.{Go, Call, Exit, Mark}
 use Rattle.ifds_model.specs.Machine.{Machine}
-use Rattle.ifds_model.specs.Runs.{HasCount, opened}
-use Rattle.ifds_model.specs.State.{View, Known, at_node, edge_item, IsHeld, IsLive, IsRetired, IsKnown}
+use Rattle.ifds_model.specs.Count.{one_count}
+use Rattle.ifds_model.specs.Runs.{opened}
+use Rattle.ifds_model.specs.State.{View, Known, at_node, edge_item, IsHeld, IsLive, IsRetired, IsKnown, IsCaller, IsExit}
 use Rattle.ifds_model.specs.Events.{TakesIn}
 use Rattle.ifds_model.proofs.Kept.{pairs_append}
+use Rattle.ifds_model.proofs.Members.{empty_count, same_count}
 use Rattle.solver_core.specs.Numbers.{live_of}
 
 -- the starts of a context, as its moves
@@ -60,31 +62,39 @@ module _ {F M : Type 0} (P : Machine F M) (e d : Context F) (at : StmtId) (s mid
       let facts : fact ≡ d.fact = cc (same) in
       (start.0, start.1, is ∙ ap (λ (n : Node). at_node d n fact) nodes ∙ ap (λ (f : F). at_node d start.0 f) facts)
 
-  added_apart : (i : Item F) → Contains a.added i → Contains b.added i → ⊥
-  added_apart (Edge c n x) in_a in_b = (b.edges_from (at_node c n x) in_b).1 (a.edges_from (at_node c n x) in_a).0
-  added_apart (Join c i k x) in_a in_b = let was = a.joins_from c i k x in_a in (b.joins_from c i k x in_b).2 (was.0, was.1)
+  -- the starts add no callers and no exits
+  caller_was : (c k : Context F) (i : StmtId) → IsCaller mid c k i → IsCaller s c k i
+  caller_was c k i has = elim (a.callers_from c k i has) [ inl before ↦ before | inr move ↦ absurd (no_call i c move.0) ]
 
-  fresh_or_mid : (x : Frame F) → IsHeld new x → IsHeld mid x ⊎ (IsHeld new x × (IsHeld mid x → ⊥))
-  fresh_or_mid x has = elim (b.queued x has) [ inl was ↦ inl was | inr queued ↦ inr (has, queued.1) ]
+  exit_was : (c : Context F) (x : F) → IsExit mid c x → IsExit s c x
+  exit_was c x has = elim (a.exits_from c x has) [ inl before ↦ before | inr move ↦ absurd (no_exit x move.0) ]
 
-  counted_both : HasCount (λ x. IsHeld new x × (IsHeld s x → ⊥)) (a.more + b.more)
-  counted_both =
-      let xs = a.counted.0 in
-      let ys = b.counted.0 in (
-        xs ++ ys,
-        record {
-          distinct = pairs_append (λ x y. x ≢ y) xs ys a.counted.1.distinct b.counted.1.distinct (λ x y in_xs in_ys same. (b.counted.1.sound y in_ys).1 (subst (IsHeld mid) same (a.counted.1.sound x in_xs).0));
-          sound = λ x has. elim (Contains-append_cases xs ys x has) [
-            | inl in_xs ↦ let fresh = a.counted.1.sound x in_xs in (b.held x fresh.0, fresh.1)
-            | inr in_ys ↦ let fresh = b.counted.1.sound x in_ys in (fresh.0, λ before. fresh.1 (a.held x before))
-          ];
-          whole = λ x fresh. elim (fresh_or_mid x fresh.0) [
-            | inl was ↦ Contains-append_left xs ys x (a.counted.1.whole x (was, fresh.1))
-            | inr now ↦ Contains-append_right xs ys x (b.counted.1.whole x now)
-          ];
-        },
-        length-append xs ys ∙ (omega (arith, a.counted.2, b.counted.2)),
-      )
+  known_callee : IsKnown mid d
+  known_callee = inl (a.live d (Contains-push s.known (live_of d)))
+
+  -- and the call of a known context holds no edges
+  held_was : (x : Frame F) → IsHeld new x → IsHeld mid x
+  held_was x has = elim (b.held_from x has) [
+    | inl was ↦ was
+    | inr leads ↦ elim leads [
+      | inl go ↦ let same = go.2 in cc (same)
+      | inr call ↦ absurd (call.4 (let same = call.3 in let callee : d ≡ call.1 = cc (same) in subst (IsKnown mid) callee known_callee))
+    ]
+  ]
+
+  none_more : b.more ≡ 0
+  none_more = one_count (λ x. IsHeld new x × (IsHeld mid x → ⊥)) b.more 0 b.counted (empty_count (λ x. IsHeld new x × (IsHeld mid x → ⊥)) (λ x is. is.1 (held_was x is.0)))
+
+  no_join : (c k : Context F) (i : StmtId) (x : F) → Contains a.added (Join c i k x) → ⊥
+  no_join c k i x in_a = let was = a.joins_from c i k x in_a in was.2 (caller_was k c i was.0, exit_was k x was.1)
+
+  no_edge : (x : Frame F) → Contains b.added (edge_item x) → ⊥
+  no_edge x in_b = let fresh = b.edges_from x in_b in fresh.1 (held_was x fresh.0)
+
+  -- the starts queue edges, the call queues joins
+  apart : (i : Item F) → Contains a.added i → Contains b.added i → ⊥
+  apart (Edge c n x) in_a in_b = no_edge (at_node c n x) in_b
+  apart (Join c i k x) in_a in_b = no_join c k i x in_a
 
   started_now : (c : Context F) → IsKnown new c → IsKnown s c ⊎ ((n : Node) → P.start c n → IsHeld new (opened c n))
   started_now c k = elim (b.started c k) [
@@ -123,52 +133,37 @@ module _ {F M : Type 0} (P : Machine F M) (e d : Context F) (at : StmtId) (s mid
       ]
     ];
     retired_from = λ c k. retired_wider c (a.retired_from c (b.retired_from c k));
-    held_from = λ x k. elim (b.held_from x k) [
-      | inr leads ↦ inr (elim leads [
-        | inl go ↦ inl (go.0, go.1, go.2, go.3)
-        | inr call ↦ inr (call.0, call.1, call.2, call.3, λ before. call.4 (known_mid call.1 (known_wider call.1 before)), call.5, call.6)
-      ])
-      | inl was ↦ elim (a.held_from x was) [
-        | inl before ↦ inl before
-        | inr leads ↦ elim leads [
-          | inl go ↦ let start = start_leads x go.0 go.1 go.2 go.3 in inr (inr (at, d, start.0, refl, unknown, start.1, start.2))
-          | inr call ↦ absurd (no_call call.0 call.1 call.3)
-        ]
+    held_from = λ x k. elim (a.held_from x (held_was x k)) [
+      | inl before ↦ inl before
+      | inr leads ↦ elim leads [
+        | inl go ↦ let start = start_leads x go.0 go.1 go.2 go.3 in inr (inr (at, d, start.0, refl, unknown, start.1, start.2))
+        | inr call ↦ absurd (no_call call.0 call.1 call.3)
       ]
     ];
-    callers_from = λ k c i has. elim (b.callers_from k c i has) [
-      | inr move ↦ inr move
-      | inl was ↦ elim (a.callers_from k c i was) [ inl before ↦ inl before | inr move ↦ absurd (no_call i k move.0) ]
-    ];
-    exits_from = λ c x k. elim (b.exits_from c x k) [
-      | inr move ↦ inr move
-      | inl was ↦ elim (a.exits_from c x was) [ inl before ↦ inl before | inr move ↦ absurd (no_exit x move.0) ]
-    ];
+    callers_from = λ k c i has. elim (b.callers_from k c i has) [ inr move ↦ inr move | inl was ↦ inl (caller_was k c i was) ];
+    exits_from = λ c x k. elim (b.exits_from c x k) [ inr move ↦ inr move | inl was ↦ inl (exit_was c x was) ];
     marks_from = λ x k. elim (b.marks_from x k) [
       | inr move ↦ inr move
       | inl was ↦ elim (a.marks_from x was) [ inl before ↦ inl before | inr move ↦ absurd (no_mark x move) ]
     ];
     added = a.added ++ b.added;
-    queue = b.queue ∙ ap (λ (q : List (Item F)). q ++ b.added) a.queue ∙ append_assoc s.queue a.added b.added;
-    once = pairs_append (λ x y. x ≢ y) a.added b.added a.once b.once (λ x y in_a in_b same. added_apart y (subst (λ (i : Item F). Contains a.added i) same in_a) in_b);
-    queued = λ x k. elim (b.queued x k) [
-      | inr p ↦ inr (Contains-append_right a.added b.added (edge_item x) p.0, λ before. p.1 (a.held x before))
-      | inl was ↦ elim (a.queued x was) [ inl before ↦ inl before | inr p ↦ inr (Contains-append_left a.added b.added (edge_item x) p.0, p.1) ]
-    ];
+    queue = b.queue ∙ ap (λ (items : List (Item F)). items ++ b.added) a.queue ∙ append_assoc s.queue a.added b.added;
+    once = pairs_append (λ i j. i ≢ j) a.added b.added a.once b.once (λ i j in_a in_b same. apart j (subst (λ (k : Item F). Contains a.added k) same in_a) in_b);
+    queued = λ x k. elim (a.queued x (held_was x k)) [ inl before ↦ inl before | inr p ↦ inr (Contains-append_left a.added b.added (edge_item x) p.0, p.1) ];
     met = λ k c i x call exit. elim (b.met k c i x call exit) [
+      | inl were ↦ inl (caller_was k c i were.0, exit_was k x were.1)
       | inr p ↦ inr (Contains-append_right a.added b.added (Join c i k x) p)
-      | inl were ↦ elim (a.met k c i x were.0 were.1) [ inl before ↦ inl before | inr p ↦ inr (Contains-append_left a.added b.added (Join c i k x) p) ]
     ];
     edges_from = λ x k. elim (Contains-append_cases a.added b.added (edge_item x) k) [
-      | inr in_b ↦ let fresh = b.edges_from x in_b in (fresh.0, λ before. fresh.1 (a.held x before))
       | inl in_a ↦ let fresh = a.edges_from x in_a in (b.held x fresh.0, fresh.1)
+      | inr in_b ↦ absurd (no_edge x in_b)
     ];
     joins_from = λ c i k x has. elim (Contains-append_cases a.added b.added (Join c i k x) has) [
+      | inl in_a ↦ absurd (no_join c k i x in_a)
       | inr in_b ↦ let fresh = b.joins_from c i k x in_b in (fresh.0, fresh.1, λ before. fresh.2 (a.callers k c i before.0, a.exits k x before.1))
-      | inl in_a ↦ let fresh = a.joins_from c i k x in_a in (b.callers k c i fresh.0, b.exits k x fresh.1, fresh.2)
     ];
-    more = a.more + b.more;
-    counted = counted_both;
-    found = omega (arith, a.found, b.found);
+    more = a.more;
+    counted = same_count (λ x. IsHeld mid x × (IsHeld s x → ⊥)) (λ x. IsHeld new x × (IsHeld s x → ⊥)) a.more (λ x is. (b.held x is.0, is.1)) (λ x is. (held_was x is.0, is.1)) a.counted;
+    found = omega (arith, a.found, b.found, none_more);
     rest = b.rest ∙ ap (λ (v : View F M). record v { queue = new.queue; held = new.held; known = new.known; callers = new.callers; exits = new.exits; marks = new.marks; found = new.found }) a.rest;
   }

@@ -4,7 +4,7 @@ use Rattle.std.proofs.Common.{arith, sym, ◌∙◌, ap, subst, inl, inr, refl}
 use Rattle.std.proofs.lemmas.List.{length_push, get_or_append_left}
 use Rattle.entry_tables.specs.Lists.{list_at, KeepsRoom, UsesRoomAt}
 use Rattle.entry_tables.specs.Tables.{Tables, callers_of, exits_of}
-use Rattle.entry_tables.specs.declared.tables.Caller.{Caller}
+use Rattle.entry_tables.specs.declared.tables.CallSite.{CallSite}
 use Rattle.ifds_model.specs.declared.node.Context.{Context}
 use Rattle.ifds_model.specs.State.{At}
 use Rattle.ifds_model.proofs.Members.{same_number_or_not}
@@ -70,9 +70,9 @@ module _ {F : Type 0} (old new : Tables F) where
     }
 
     -- a caller more
-    pub uses_caller : (n : ℕ) (c : Caller) → new.callers ≡ slice_set old.callers n (callers_of old n ++ c ∷ []) → new.exits ≡ old.exits → UsesRoomAt n old.spare_callers new.spare_callers → new.spare_exits ≡ old.spare_exits → Uses 0 1 old new
+    pub uses_caller : (n : ℕ) (c : CallSite) → new.callers ≡ slice_set old.callers n (callers_of old n ++ c ∷ []) → new.exits ≡ old.exits → UsesRoomAt n old.spare_callers new.spare_callers → new.spare_exits ≡ old.spare_exits → Uses 0 1 old new
     uses_caller n c set exits spare_callers spare_exits = uses_entry
-        (λ k. subst (λ (rows : List (List Caller)). length (list_at rows k) ≤ length (callers_of old k) + 1) (sym set) (list_grown old.callers n k c))
+        (λ k. subst (λ (rows : List (List CallSite)). length (list_at rows k) ≤ length (callers_of old k) + 1) (sym set) (list_grown old.callers n k c))
         (λ k. omega (arith, ap (λ (rows : List (List F)). length (list_at rows k)) exits))
         (room_used n old.spare_callers new.spare_callers spare_callers)
         (λ k. omega (arith, ap (λ (rooms : List ℕ). slice_index rooms k) spare_exits))
@@ -80,7 +80,7 @@ module _ {F : Type 0} (old new : Tables F) where
     -- a caller that was there
     pub uses_no_caller : (n : ℕ) → new.callers ≡ old.callers → new.exits ≡ old.exits → UsesRoomAt n old.spare_callers new.spare_callers → new.spare_exits ≡ old.spare_exits → Uses 0 1 old new
     uses_no_caller n same exits spare_callers spare_exits = uses_entry
-        (λ k. omega (arith, ap (λ (rows : List (List Caller)). length (list_at rows k)) same))
+        (λ k. omega (arith, ap (λ (rows : List (List CallSite)). length (list_at rows k)) same))
         (λ k. omega (arith, ap (λ (rows : List (List F)). length (list_at rows k)) exits))
         (room_used n old.spare_callers new.spare_callers spare_callers)
         (λ k. omega (arith, ap (λ (rooms : List ℕ). slice_index rooms k) spare_exits))
@@ -88,7 +88,7 @@ module _ {F : Type 0} (old new : Tables F) where
     -- an exit more
     pub uses_exit : (n : ℕ) (x : F) → new.exits ≡ slice_set old.exits n (exits_of old n ++ x ∷ []) → new.callers ≡ old.callers → UsesRoomAt n old.spare_exits new.spare_exits → new.spare_callers ≡ old.spare_callers → Uses 0 1 old new
     uses_exit n x set callers spare_exits spare_callers = uses_entry
-        (λ k. omega (arith, ap (λ (rows : List (List Caller)). length (list_at rows k)) callers))
+        (λ k. omega (arith, ap (λ (rows : List (List CallSite)). length (list_at rows k)) callers))
         (λ k. subst (λ (rows : List (List F)). length (list_at rows k) ≤ length (exits_of old k) + 1) (sym set) (list_grown old.exits n k x))
         (λ k. omega (arith, ap (λ (rooms : List ℕ). slice_index rooms k) spare_callers))
         (room_used n old.spare_exits new.spare_exits spare_exits)
@@ -96,7 +96,7 @@ module _ {F : Type 0} (old new : Tables F) where
     -- an exit that was there
     pub uses_no_exit : (n : ℕ) → new.exits ≡ old.exits → new.callers ≡ old.callers → UsesRoomAt n old.spare_exits new.spare_exits → new.spare_callers ≡ old.spare_callers → Uses 0 1 old new
     uses_no_exit n same callers spare_exits spare_callers = uses_entry
-        (λ k. omega (arith, ap (λ (rows : List (List Caller)). length (list_at rows k)) callers))
+        (λ k. omega (arith, ap (λ (rows : List (List CallSite)). length (list_at rows k)) callers))
         (λ k. omega (arith, ap (λ (rows : List (List F)). length (list_at rows k)) same))
         (λ k. omega (arith, ap (λ (rooms : List ℕ). slice_index rooms k) spare_callers))
         (room_used n old.spare_exits new.spare_exits spare_exits)
@@ -116,7 +116,7 @@ module _ {F : Type 0} (old new : Tables F) where
     ];
     room = spare;
     first = first;
-    callers = λ k. omega (arith, ap (λ (rows : List (List Caller)). length (list_at rows k)) callers, list_blank old.callers k);
+    callers = λ k. omega (arith, ap (λ (rows : List (List CallSite)). length (list_at rows k)) callers, list_blank old.callers k);
     exits = λ k. omega (arith, ap (λ (rows : List (List F)). length (list_at rows k)) exits, list_blank old.exits k);
     spare_callers = λ k. omega (arith, spare_callers k);
     spare_exits = λ k. omega (arith, spare_exits k);

@@ -10,12 +10,12 @@ mod limit;
 mod marks;
 mod moves;
 mod parts;
+mod pending;
 mod prepare;
 mod ready;
 mod room;
 mod sets;
 pub mod state;
-mod work;
 
 pub use answer::{Answer, CommitStop, Committed, Job, Taken};
 pub use state::State;

@@ -12,7 +12,7 @@ ghost use Rattle.solver_core.specs.Room.{Uses};
 ghost use Rattle.solver_core.specs.Seen.{AreFit, TakesInParts, OpensInParts, GoesTo};
 
 use crate::parts::Parts;
-use crate::work::{Work, queue_work};
+use crate::pending::{Pending, queue_work};
 use clean_base::{Plain, StmtId};
 use entry_tables::EntryTables;
 use ifds_model::{Context, Node, Problem};
@@ -43,7 +43,7 @@ pub fn take_go<P: Problem>(
     if parts.edges.add(context, node, fact) {
         queue_work(
             &mut parts.queue,
-            Work::Edge {
+            Pending::Edge {
                 context,
                 node,
                 fact,
@@ -78,7 +78,7 @@ pub fn take_mark<P: Problem>(
 
 // Queues the joins of an exit with the callers of its context.
 fn meet_callers<F: Plain>(
-    queue: &mut VecDeque<Work<F>>,
+    queue: &mut VecDeque<Pending<F>>,
     tables: &EntryTables<F>,
     callee: u64,
     exit: F,
@@ -94,7 +94,7 @@ fn meet_callers<F: Plain>(
         let waiting = tables.caller_at(callee, at);
         queue_work(
             queue,
-            Work::Join {
+            Pending::Join {
                 caller: waiting.caller,
                 call: waiting.call,
                 callee,
@@ -131,7 +131,7 @@ pub fn take_exit<P: Problem>(
 
 // Queues the joins of a caller with the exits of what it calls.
 fn meet_exits<F: Plain>(
-    queue: &mut VecDeque<Work<F>>,
+    queue: &mut VecDeque<Pending<F>>,
     tables: &EntryTables<F>,
     caller: u64,
     call: StmtId,
@@ -148,7 +148,7 @@ fn meet_exits<F: Plain>(
         let exit = tables.exit_at(callee, at);
         queue_work(
             queue,
-            Work::Join {
+            Pending::Join {
                 caller,
                 call,
                 callee,

@@ -3,12 +3,12 @@
 ghost use Rattle.std.specs.Prelude.{◌≡◌, ◌≤◌, ◌∷◌, [], length, replicate, IfOk, Some, None};
 ghost use Rattle.std.specs.VecDeque.{deque_len, deque_capacity};
 ghost use Rattle.ifds_model.specs.declared.node.Context.{Context};
-ghost use Rattle.solver_core.specs.Numbers.{item_of, IsWithin};
+ghost use Rattle.solver_core.specs.Numbers.{item_of, HasNumbersBelow};
 ghost use Rattle.solver_core.specs.Store.{spot};
-ghost use Rattle.solver_core.specs.declared.work.Work.TheVariants.{Edge as WorkEdge};
+ghost use Rattle.solver_core.specs.declared.pending.Pending.TheVariants.{Edge as PendingEdge};
 
 use crate::edges::EdgeStore;
-use crate::work::Work;
+use crate::pending::Pending;
 use clean_base::Plain;
 use entry_tables::EntryTables;
 use ifds_model::{Context, Item, Node, Problem};
@@ -20,8 +20,8 @@ use std::collections::VecDeque;
 pub struct Parts<F: Plain, M: Plain> {
     pub tables: EntryTables<F>,
     pub edges: EdgeStore<F>,
-    pub queue: VecDeque<Work<F>>,
-    pub flights: Vec<Option<Work<F>>>,
+    pub queue: VecDeque<Pending<F>>,
+    pub flights: Vec<Option<Pending<F>>>,
     pub marks: Vec<M>,
 }
 
@@ -62,10 +62,13 @@ fn root_edge<F: Plain>(alloc: Global, node: Node, fact: F) -> Result<EdgeStore<F
 }
 
 // So many workers with nothing in hand.
-fn idle_workers<F: Plain>(alloc: Global, workers: u32) -> Result<Vec<Option<Work<F>>>, AllocError>
+fn idle_workers<F: Plain>(
+    alloc: Global,
+    workers: u32,
+) -> Result<Vec<Option<Pending<F>>>, AllocError>
     ensures { IfOk result (λ v. v.items ≡ replicate workers None) }
 {
-    let none: Option<Work<F>> = None;
+    let none: Option<Pending<F>> = None;
     vec![in alloc; none; workers as usize]
 }
 
@@ -80,7 +83,7 @@ pub fn first_parts<F: Plain, M: Plain>(
     ensures callers { IfOk result (λ s. s.tables.callers ≡ [] ∷ []) }
     ensures exits { IfOk result (λ s. s.tables.exits ≡ [] ∷ []) }
     ensures edges { IfOk result (λ s. s.edges.edges ≡ spot 0 node root.fact ∷ []) }
-    ensures queue { IfOk result (λ s. s.queue.items ≡ WorkEdge 0 node root.fact ∷ []) }
+    ensures queue { IfOk result (λ s. s.queue.items ≡ PendingEdge 0 node root.fact ∷ []) }
     ensures room { IfOk result (λ s. deque_len s.queue ≤ deque_capacity s.queue) }
     ensures flights { IfOk result (λ s. s.flights.items ≡ replicate workers None) }
     ensures marks { IfOk result (λ s. s.marks.items ≡ []) }
@@ -88,7 +91,7 @@ pub fn first_parts<F: Plain, M: Plain>(
     let tables = root_tables(alloc, root)?;
     let edges = root_edge(alloc, node, root.fact)?;
     let mut queue = VecDeque::with_capacity(alloc, 1)?;
-    queue.push_back(Work::Edge {
+    queue.push_back(Pending::Edge {
         context: 0,
         node,
         fact: root.fact,
@@ -104,12 +107,12 @@ pub fn first_parts<F: Plain, M: Plain>(
 }
 
 /// The item that a work stands for.
-pub fn named<F: Plain>(tables: &EntryTables<F>, work: Work<F>) -> Item<F>
-    requires { IsWithin (length tables.now.contexts) work }
+pub fn named<F: Plain>(tables: &EntryTables<F>, work: Pending<F>) -> Item<F>
+    requires { HasNumbersBelow (length tables.now.contexts) work }
     ensures { (root : Context F) → result ≡ item_of root tables.now.contexts work }
 {
     match work {
-        Work::Edge {
+        Pending::Edge {
             context,
             node,
             fact,
@@ -118,7 +121,7 @@ pub fn named<F: Plain>(tables: &EntryTables<F>, work: Work<F>) -> Item<F>
             node,
             fact,
         },
-        Work::Join {
+        Pending::Join {
             caller,
             call,
             callee,

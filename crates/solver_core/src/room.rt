@@ -10,8 +10,8 @@ ghost use Rattle.solver_core.specs.Room.{JoinsWithin, HasCallerRoom, HasRoomFor,
 ghost use Rattle.solver_core.specs.Seen.{AreFit, HasRoom};
 
 use crate::parts::Parts;
+use crate::pending::out_of;
 use crate::ready::{Ready, plus};
-use crate::work::out_of;
 use clean_base::Plain;
 use entry_tables::EntryTables;
 use ifds_model::Move;

@@ -1,7 +1,9 @@
 // The solver's state: the events that it goes through, and what it answers once nothing is left to do.
-ghost use Rattle.std.specs.Prelude.{◌≡◌, ◌≢◌, ◌↔◌, ◌<◌, ◌≤◌, ◌+◌, ◌-◌, ◌^◌, ℕ, length, IsTrue, Contains, IfOk, OnOk, OnErr, IfErr, Some, None};
+ghost use Rattle.std.specs.Prelude.{◌≡◌, ◌≢◌, ◌↔◌, ◌<◌, ◌≤◌, ◌+◌, ◌-◌, ◌^◌, ℕ, length, IsTrue, false, Contains, IfOk, OnOk, OnErr, IfErr, Some, None};
 ghost use Rattle.std.specs.List.Sorted.{IsStrictlySortedBy};
+ghost use Rattle.ifds_model.specs.Laws.{IsLawful};
 ghost use Rattle.ifds_model.specs.Runs.{IsEdge, IsContext, IsLeak, HasCount, Lists};
+ghost use Rattle.ifds_model.specs.Sound.{IsFound, IsDone};
 ghost use Rattle.ifds_model.specs.State.{At};
 ghost use Rattle.ifds_model.specs.Events.{IsOpened, Takes, Commits, GivesBack};
 ghost use Rattle.solver_core.specs.Seen.{IsRight};
@@ -13,10 +15,10 @@ use crate::answer::{Answer, CommitStop, Committed, Job, Taken};
 use crate::intake::take_moves;
 use crate::marks::in_order;
 use crate::parts::{Parts, first_parts, first_start, named};
-use crate::prepare::prepare;
-use crate::work::{
+use crate::pending::{
     commit_count, hand_back, hand_of, hand_out, next_work, out_of, place_of, queue_work,
 };
+use crate::prepare::prepare;
 use ifds_model::{Outcome, Problem};
 use std::alloc::{AllocError, Global};
 use std::marker::Model;
@@ -59,6 +61,7 @@ impl<'a, P: Problem> State<'a, P> {
         requires workers { workers ≡ 1 }
         ensures problem { IfOk result (λ s. s.problem ≡ problem.now) }
         ensures opened { IfOk result (λ s. IsOpened (P.machine problem.now) period max_edges workers s.view) }
+        ensures sound { IfOk result (λ s. IsRight (P.machine problem.now) (P.reaches problem.now) s.view) }
     {
         let root = problem.root();
         let node = first_start(alloc, problem, &root)?;
@@ -91,7 +94,8 @@ impl<'a, P: Problem> State<'a, P> {
     /// Whether a worker has an item in hand.
     pub fn has_flight(&self, w: u32) -> bool
         requires { w < length self.now.view.flights }
-        ensures { IsTrue result ↔ (At self.now.view.flights w None → ⊥) }
+        ensures flies { IsTrue result ↔ ((item : _) × At self.now.view.flights w (Some item)) }
+        ensures idle { result ≡ false ↔ At self.now.view.flights w None }
     {
         self.parts.flights[w as usize].is_some()
     }
@@ -103,17 +107,19 @@ impl<'a, P: Problem> State<'a, P> {
         self.parts.queue.len() as u64
     }
 
-    /// How many edges were committed.
+    /// How many edges were committed: those that are held or dropped with nothing left to do.
     pub fn commits(&self) -> u64
-        ensures { result ≡ self.now.view.commits }
+        ensures count { result ≡ self.now.view.commits }
+        ensures done { HasCount (IsDone (P.machine self.now.problem) self.now.view) result }
     {
         self.commits
     }
 
-    /// How many edges were ever held.
+    /// How many edges were ever held: those that are held now, and those that were dropped.
     pub fn found(&self) -> u64
         ensures count { result ≡ self.now.view.found }
-        ensures right { IsRight (P.machine self.now.problem) (P.reaches self.now.problem) self.now.view }
+        ensures found { HasCount (IsFound (P.machine self.now.problem) self.now.view) result }
+        ensures sound { IsRight (P.machine self.now.problem) (P.reaches self.now.problem) self.now.view }
     {
         self.parts.edges.len()
     }
@@ -126,6 +132,7 @@ impl<'a, P: Problem> State<'a, P> {
         ensures took { (job : _) → result ≡ Took job → Takes w place self.old.view self.new.view × At self.old.view.queue place job.item × (job.take ≡ self.new.view.takes) }
         ensures idle { (n : ℕ) → result ≡ Idle n → IsIdle self.old.view n × (self.new.view ≡ self.old.view) }
         ensures finished { result ≡ Finished → IsOver self.old.view × (self.new.view ≡ self.old.view) }
+        ensures sound { IsRight (P.machine self.new.problem) (P.reaches self.new.problem) self.new.view }
     {
         let Some(work) = next_work(&mut self.parts.queue) else {
             return waiting(out_of(self.parts.flights.as_slice()));
@@ -147,6 +154,8 @@ impl<'a, P: Problem> State<'a, P> {
         ensures event { OnOk result (Commits (P.machine self.old.problem) w self.old.view self.new.view) }
         ensures stopped { IfErr result (λ e. IsStopped (P.machine self.old.problem) outcome.entry.item self.old.view e) }
         ensures same { IfErr result (λ e. self.new.view ≡ self.old.view) }
+        ensures sound { IsRight (P.machine self.new.problem) (P.reaches self.new.problem) self.new.view }
+        ensures within { self.new.view.commits ≤ self.new.view.max_edges }
     {
         let Some(work) = hand_of(self.parts.flights.as_slice(), w) else {
             unreachable!();
@@ -174,6 +183,7 @@ impl<'a, P: Problem> State<'a, P> {
         requires flies { At self.old.view.flights w None → ⊥ }
         ensures problem { self.new.problem ≡ self.old.problem }
         ensures event { GivesBack w self.old.view self.new.view }
+        ensures sound { IsRight (P.machine self.new.problem) (P.reaches self.new.problem) self.new.view }
     {
         if let Some(work) = hand_back(&mut self.parts.flights, w) {
             queue_work(&mut self.parts.queue, work);
@@ -189,7 +199,9 @@ impl<'a, P: Problem> State<'a, P> {
         ensures edges { IfOk result (λ a. HasCount (IsEdge (P.machine self.entry.problem)) a.edges) }
         ensures contexts { IfOk result (λ a. HasCount (IsContext (P.machine self.entry.problem)) a.contexts) }
         ensures commits { IfOk result (λ a. a.commits ≡ a.edges) }
+        ensures limit { IfOk result (λ a. a.edges ≤ self.entry.view.max_edges) }
     {
+        lawful(self.problem);
         let commits = self.commits;
         let parts = self.parts;
         let contexts = parts.tables.contexts();
@@ -203,6 +215,11 @@ impl<'a, P: Problem> State<'a, P> {
         })
     }
 }
+
+// Every problem has the laws that the lemmas about states ask for.
+fn lawful<P: Problem>(_problem: &P)
+    ensures { IsLawful (P.machine _problem.now) (P.method_of _problem.now) (P.reaches _problem.now) }
+{}
 
 // What is left to do where nothing waits.
 fn waiting<P: Problem>(in_flight: u32) -> Taken<P>

@@ -5,5 +5,4 @@ pub mod Whole
 pub mod Exact
 pub mod LineExact
 pub mod Along
-pub mod Indexed
 pub mod Named

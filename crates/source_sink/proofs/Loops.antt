@@ -2,7 +2,8 @@
 use Rattle.std.proofs.Common.{◌≡◌, ◌<◌, ◌≤◌, ℕ, zero, suc, true, false, List, [], ◌∷◌, ◌++◌, length, Some, None, refl, sym, ap, ◌∙◌, arith, append_assoc, append-nil}
 use Rattle.std.proofs.lemmas.List.{length-append}
 use Rattle.jimple_tree.specs.declared.tree.JType.{JType}
-use Rattle.source_sink.specs.Signature.{spaces, type_text}
+use Rattle.jimple_tree.specs.Printed.{type_text}
+use Rattle.source_sink.specs.Signature.{spaces}
 use Rattle.source_sink.specs.Reading.{Read, ◌>>=◌, sees, read_later_type, read_later}
 use Rattle.source_sink.proofs.Steps.{reads_some}
 use Rattle.source_sink.proofs.Sound.{IsLater, later_type_read}

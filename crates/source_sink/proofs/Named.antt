@@ -1,16 +1,17 @@
--- What the lines of one name say, from the last to the first.
-use Rattle.std.proofs.Common.{◌≡◌, ◌⊎◌, ◌<◌, ◌≤◌, ◌+◌, ℕ, Bool, true, false, List, length, nat_eq, get_or, Some, None, refl, sym, ap, subst, ◌∙◌, inl, inr, arith}
-use Rattle.std.specs.Prelude.{Option}
-use Rattle.std.proofs.lemmas.List.{get_or_default}
+-- What the lines of one name say.
+use Rattle.std.proofs.Common.{◌≡◌, ◌⊎◌, ◌↔◌, ◌<◌, ◌≤◌, ◌+◌, ℕ, Bool, true, false, List, [], ◌∷◌, ◌++◌, length, nat_eq, get_or, map, take, IsTrue, refl, sym, ap, subst, ◌∙◌, inl, inr, arith}
+use Rattle.std.specs.Prelude.{Contains}
+use Rattle.std.proofs.lemmas.List.{get_or_default, take_all, take_more}
+use Rattle.std.proofs.lemmas.List.Elements.{Contains-append_left, Contains-push, Contains-push_cases}
 use Rattle.clean_base.specs.Exact.{both_true, same_number}
 use lib.Pointwise.{bytes_decides, pointwise_decides}
+use Rattle.clean_base.specs.Lists.{At}
 use Rattle.jimple_tree.specs.declared.tree.JType.{JType}
 use Rattle.jimple_tree.specs.declared.tree.Sig.{Sig}
+use Rattle.name_index.proofs.Named.{name_at}
 use Rattle.source_sink.specs.declared.line.Line.{Line}
-use Rattle.source_sink.specs.declared.index.Index.{Index}
-use Rattle.source_sink.specs.Index.{HasNone, IsLast, IsIndex}
 use Rattle.source_sink.specs.Lists.{Says}
-use Rattle.source_sink.specs.ReadingLists.{same_type, is_same, adds}
+use Rattle.source_sink.specs.ReadingLists.{same_type, is_same, adds, name_of, SaysAt}
 
 number_same : (n : ℕ) → nat_eq n n ≡ true
 number_same n = grind arith
@@ -55,42 +56,9 @@ same_decides a class b = (there, λ e. subst (λ (s : Sig). is_same s class b �
       let params = (pointwise_decides type_decides b.params b.params).1 refl in
       rw (name, of, result, params) refl
 
--- some line from there on says it
-pub record SaysFrom (lines : List Line) (sig : Sig) (does : Line → Bool) (from : ℕ) : Type 0 where
-  pub place : ℕ
-  pub line : Line
-  pub above : from ≤ place
-  pub within : place < length lines
-  pub is : get_or lines place line ≡ line
-  pub of : line.sig ≡ sig
-  pub says : does line ≡ true
-
--- so far it is known from there on whether a line says it
-abbrev pub Knows : List Line → Sig → (Line → Bool) → ℕ → Bool → Type 0
-Knows lines sig does from known = (known ≡ true → SaysFrom lines sig does from) × (SaysFrom lines sig does from → known ≡ true)
-
-pub none_known : (lines : List Line) (sig : Sig) (does : Line → Bool) → Knows lines sig does (length lines) false
-none_known lines sig does = (λ h. let bad : false ≡ true = h in cc, λ s. let a = s.above in let w = s.within in absurd (omega (arith, a, w)))
-
-pub all_known : (lines : List Line) (sig : Sig) (does : Line → Bool) (from : ℕ) (known : Bool) → HasNone lines sig.name 0 from → Knows lines sig does from known
-    → (known ≡ true → Says lines sig does) × (Says lines sig does → known ≡ true)
-all_known lines sig does from known none h = (
-  λ t. let s = h.0 t in record { line = s.line; listed = (s.place, s.within, s.is); of = s.of; says = s.says },
-  λ s. h.1 (record {
-    place = s.listed.0;
-    line = s.line;
-    within = s.listed.1;
-    is = s.listed.2;
-    of = s.of;
-    says = s.says;
-    above = elim (cases s.listed.0) [
-      | inl less ↦ absurd (none s.listed.0 s.line (omega arith) less (ap (λ (l : Line). l.sig.name) s.listed.2 ∙ ap (λ (t : Sig). t.name) s.of))
-      | inr more ↦ more
-    ];
-  }),
-) where
-  cases : (k : ℕ) → (k < from) ⊎ (from ≤ k)
-  cases k = grind arith
+-- so far no line was asked
+pub none_said : (lines : List Line) (sig : Sig) (does : Line → Bool) → IsTrue false ↔ SaysAt lines [] sig does
+none_said lines sig does = (λ h. let bad : false ≡ true = h in cc, λ s. let below = s.among.1 in absurd (omega (arith, below)))
 
 adds_true : (before same says : Bool) → adds before same says ≡ true → (before ≡ true) ⊎ ((same ≡ true) × (says ≡ true))
 adds_true true same says h = inl refl
@@ -106,42 +74,44 @@ adds_here : (before same says : Bool) → same ≡ true → says ≡ true → ad
 adds_here true same says s t = rw s refl
 adds_here false same says s t = rw (s, t) refl
 
-place_cases : (k j from : ℕ) → j ≤ k → (k ≡ j) ⊎ ((j + 1 ≤ k) × (k < from)) ⊎ (from ≤ k)
-place_cases k j from h = grind arith
+-- one line more
+pub says_more : (lines : List Line) (class : List ℕ) (sig : Sig) (does : Line → Bool) (places : List ℕ) (i k : ℕ) (line : Line) (known : Bool) → i < length places → k ≡ get_or places i 0 → At lines k line
+    → IsTrue known ↔ SaysAt lines (take i places) (asked class sig) does
+    → IsTrue (adds known (is_same line.sig class sig) (does line)) ↔ SaysAt lines (take (i + 1) places) (asked class sig) does
+says_more lines class sig does places i k line known below is at h = (there, back) where
+  next : take (i + 1) places ≡ take i places ++ k ∷ []
+  next = take_more places i 0 below ∙ ap (λ (n : ℕ). take i places ++ n ∷ []) (sym is)
 
-pub line_known : (lines : List Line) (class : List ℕ) (sig : Sig) (does : Line → Bool) (from j : ℕ) (line : Line) (known : Bool) → from ≤ length lines → j < from
-    → HasNone lines sig.name (j + 1) from → line ≡ get_or lines j line → Knows lines (asked class sig) does from known
-    → Knows lines (asked class sig) does j (adds known (is_same line.sig class sig) (does line))
-line_known lines class sig does from j line known bound below none is h = (
-  λ t. elim (adds_true known (is_same line.sig class sig) (does line) t) [
-    | inl before ↦ let s = h.0 before in record { place = s.place; line = s.line; above = let a = s.above in omega (arith, a, below); within = s.within; is = s.is; of = s.of; says = s.says }
-    | inr here ↦ record { place = j; line = line; above = omega arith; within = omega (arith, bound, below); is = sym is; of = (same_decides line.sig class sig).0 here.0; says = here.1 }
-  ],
-  λ s. elim (place_cases s.place j from s.above) [
-    | inl here ↦
-        let one : line ≡ s.line = is ∙ get_or_default lines j line s.line (omega (arith, bound, below)) ∙ ap (λ (k : ℕ). get_or lines k s.line) (sym here) ∙ s.is in
-        let same = (same_decides line.sig class sig).1 (ap (λ (l : Line). l.sig) one ∙ s.of) in
-        adds_here known (is_same line.sig class sig) (does line) same (ap does one ∙ s.says)
-    | inr (inl between) ↦ absurd (none s.place s.line between.0 between.1 (ap (λ (l : Line). l.sig.name) s.is ∙ ap (λ (t : Sig). t.name) s.of))
-    | inr (inr above) ↦ adds_before known (is_same line.sig class sig) (does line) (h.1 (record { place = s.place; line = s.line; above = above; within = s.within; is = s.is; of = s.of; says = s.says }))
-  ],
+  there : IsTrue (adds known (is_same line.sig class sig) (does line)) → SaysAt lines (take (i + 1) places) (asked class sig) does
+  there t = elim (adds_true known (is_same line.sig class sig) (does line) t) [
+    | inl before ↦
+        let s = h.0 before in
+        record { place = s.place; line = s.line; among = subst (λ (ns : List ℕ). Contains ns s.place) (sym next) (Contains-append_left (take i places) (k ∷ []) s.place s.among); stands = s.stands; of = s.of; says = s.says }
+    | inr here ↦
+        record { place = k; line = line; among = subst (λ (ns : List ℕ). Contains ns k) (sym next) (Contains-push (take i places) k); stands = at; of = (same_decides line.sig class sig).0 here.0; says = here.1 }
+  ]
+
+  back : SaysAt lines (take (i + 1) places) (asked class sig) does → IsTrue (adds known (is_same line.sig class sig) (does line))
+  back s = elim (Contains-push_cases (take i places) k s.place (subst (λ (ns : List ℕ). Contains ns s.place) next s.among)) [
+    | inl early ↦ adds_before known (is_same line.sig class sig) (does line) (h.1 (record { place = s.place; line = s.line; among = early; stands = s.stands; of = s.of; says = s.says }))
+    | inr here ↦
+        let there = s.stands in
+        let one : line ≡ s.line = sym at.1 ∙ ap (λ (n : ℕ). get_or lines n line) here ∙ get_or_default lines s.place line s.line there.0 ∙ there.1 in
+        adds_here known (is_same line.sig class sig) (does line) ((same_decides line.sig class sig).1 (ap (λ (l : Line). l.sig) one ∙ s.of)) (ap does one ∙ s.says)
+  ]
+
+-- where these are all places of the signature's name, it is what all lines say
+pub all_said : (lines : List Line) (sig : Sig) (does : Line → Bool) (places : List ℕ) (i : ℕ) (known : Bool) → length places ≤ i
+    → ((place : ℕ) → Contains places place ↔ At (map name_of lines) place sig.name)
+    → IsTrue known ↔ SaysAt lines (take i places) sig does → IsTrue known ↔ Says lines sig does
+all_said lines sig does places i known past exact h = (
+  λ t. let s = h.0 t in record { line = s.line; listed = (s.place, s.stands.0, s.stands.1); of = s.of; says = s.says },
+  λ s. h.1 (record {
+    place = s.listed.0;
+    line = s.line;
+    among = subst (λ (ns : List ℕ). Contains ns s.listed.0) (sym (take_all i places past)) ((exact s.listed.0).1 (subst (At (map name_of lines) s.listed.0) (ap (λ (t : Sig). t.name) s.of) (name_at name_of lines s.listed.0 s.line (s.listed.1, s.listed.2))));
+    stands = (s.listed.1, s.listed.2);
+    of = s.of;
+    says = s.says;
+  }),
 )
-
--- no more lines than these are left
-abbrev pub left : Option ℕ → ℕ
-left None = 0
-left (Some j) = j + 1
-
-pub fewer : (lines : List Line) (name : List ℕ) (j : ℕ) (next : Option ℕ) → IsLast lines name j next → left next < j + 1
-fewer lines name j None h = omega arith
-fewer lines name j (Some k) h = let below = h.0 in omega (arith, below)
-
--- the next line is the last one below this of the same name
-pub next_last : (lines items : List Line) (earlier : List (Option ℕ)) (index : Index) → lines ≡ items → earlier ≡ index.earlier.items → IsIndex items (length items) index
-    → (name : List ℕ) (j from : ℕ) (line : Line) → j < from → from ≤ length lines → (get_or lines j line).sig.name ≡ name → IsLast lines name j (get_or earlier j None)
-next_last lines items earlier index e f h name j from line below within named =
-    let n : length lines ≡ length items = ap length e in
-    let told : IsLast items (get_or items j line).sig.name j (get_or index.earlier.items j None) = h.earlier j line None (omega (arith, n, below, within)) in
-    let same : (get_or items j line).sig.name ≡ name = ap (λ (xs : List Line). (get_or xs j line).sig.name) (sym e) ∙ named in
-    subst (λ (xs : List Line). IsLast xs name j (get_or earlier j None)) (sym e)
-    (subst (λ (xs : List (Option ℕ)). IsLast items name j (get_or xs j None)) (sym f) (subst (λ (w : List ℕ). IsLast items w j (get_or index.earlier.items j None)) same told))

@@ -9,7 +9,8 @@ use Rattle.std.proofs.lemmas.List.Sums.{prefix_len-le-length}
 use lib.Pointwise.{bytes_decides}
 use Rattle.jimple_tree.specs.declared.tree.JType.{JType}
 use Rattle.source_sink.specs.declared.cursor.Spaced.{Spaced}
-use Rattle.source_sink.specs.Signature.{is_name_byte, IsName, spaces, brackets, type_text, later_text, params_text, sig_text, HasNames}
+use Rattle.jimple_tree.specs.Printed.{brackets, type_text}
+use Rattle.source_sink.specs.Signature.{is_name_byte, IsName, spaces, later_text, params_text, sig_text, HasNames}
 use Rattle.source_sink.specs.Reading.{sees, read_byte, name_len, read_name, is_space, read_spaces, without_spaces, pairs, without_pairs, read_type, read_later_type, read_later, read_params, read_sig}
 use Rattle.source_sink.proofs.Steps.{Reads, reads_then, reads_if, reads_unless, reads_either, reads_some_all}
 

@@ -7,7 +7,8 @@ use Rattle.std.specs.List.{prefix_len, list_all, AllByRecursion}
 use Rattle.clean_base.specs.Exact.{both_true}
 use Rattle.jimple_tree.specs.declared.tree.JType.{JType}
 use Rattle.jimple_tree.specs.declared.tree.Sig.{Sig}
-use Rattle.source_sink.specs.Signature.{is_name_byte, IsName, IsPlainName, spaces, brackets, type_text, later_text, params_text, sig_text, HasNames}
+use Rattle.jimple_tree.specs.Printed.{brackets, type_text}
+use Rattle.source_sink.specs.Signature.{is_name_byte, IsName, IsPlainName, spaces, later_text, params_text, sig_text, HasNames}
 use Rattle.source_sink.specs.Reading.{sees, read_byte, name_len, read_name, is_space, read_spaces, without_spaces, pairs, without_pairs, read_type, read_later_type, read_later, read_params, read_sig}
 
 -- no byte of this kind stands in front

@@ -2,4 +2,3 @@ pub mod Signature
 pub mod Reading
 pub mod Lists
 pub mod ReadingLists
-pub mod Index

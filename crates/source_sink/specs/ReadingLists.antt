@@ -1,9 +1,10 @@
 -- How a line of a list is read from the front of bytes. The private functions of `lists` cite this; public contracts
 -- cite `Lists` alone.
-use Rattle.std.specs.Prelude.{◌≡◌, ◌==◌, ℕ, Bool, true, false, not, List, drop, nat_eq, Some, None, if◌then◌else◌}
+use Rattle.std.specs.Prelude.{◌≡◌, ◌==◌, ℕ, Bool, true, false, not, List, drop, nat_eq, Contains, Some, None, if◌then◌else◌}
 use Rattle.std.specs.List.{list_all, starts_with}
 use mathlib.Core.Bool.{◌&&◌, ◌||◌}
 use lib.Pointwise.{pointwise}
+use Rattle.clean_base.specs.Lists.{At}
 use Rattle.jimple_tree.specs.declared.tree.JType.{JType}
 use Rattle.jimple_tree.specs.declared.tree.Sig.{Sig}
 use Rattle.source_sink.specs.declared.cursor.Miss.{Miss}
@@ -42,6 +43,19 @@ same_type a b = pointwise nat_eq a.base b.base && nat_eq a.dims b.dims
 -- whether a is b, with that class in place of its own
 abbrev pub is_same : Sig → List ℕ → Sig → Bool
 is_same a class b = pointwise nat_eq a.name b.name && pointwise nat_eq a.class class && same_type a.result b.result && pointwise same_type a.params b.params
+
+-- the name by which a line is found
+abbrev pub name_of : Line → List ℕ
+name_of line = line.sig.name
+
+-- some line at one of these places is of this signature and says so
+pub record SaysAt (lines : List Line) (places : List ℕ) (sig : Sig) (does : Line → Bool) : Type 0 where
+  pub place : ℕ
+  pub line : Line
+  pub among : Contains places place
+  pub stands : At lines place line
+  pub of : line.sig ≡ sig
+  pub says : does line ≡ true
 
 -- what was said before, and what a line adds where it is of the signature asked for
 abbrev pub adds : Bool → Bool → Bool → Bool

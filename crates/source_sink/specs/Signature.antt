@@ -1,7 +1,8 @@
 -- The text of a method signature (docs/FORMATS.md, "Signatures and lists").
-use Rattle.std.specs.Prelude.{◌≡◌, ◌⊎◌, ◌<◌, ◌==◌, ℕ, zero, suc, Bool, true, not, List, [], ◌∷◌, ◌++◌, length, drop, slice_index, codes, replicate}
+use Rattle.std.specs.Prelude.{◌≡◌, ◌⊎◌, ◌<◌, ◌==◌, ℕ, Bool, true, not, List, [], ◌∷◌, ◌++◌, length, drop, slice_index, codes, replicate}
 use Rattle.std.specs.List.{AllByRecursion, concat, list_all}
 use mathlib.Core.Bool.{◌||◌}
+use Rattle.jimple_tree.specs.Printed.{type_text}
 use Rattle.jimple_tree.specs.declared.tree.JType.{JType}
 use Rattle.jimple_tree.specs.declared.tree.Sig.{Sig}
 
@@ -29,14 +30,6 @@ IsName n = (n ≡ codes "<init>") ⊎ ((n ≡ codes "<clinit>") ⊎ IsPlainName 
 -- so many spaces
 abbrev pub spaces : ℕ → List ℕ
 spaces n = replicate n 32
-
--- so many pairs of brackets
-abbrev pub brackets : ℕ → List ℕ
-brackets zero = []
-brackets (suc n) = codes "[]" ++ brackets n
-
-abbrev pub type_text : JType → List ℕ
-type_text t = t.base ++ brackets t.dims
 
 -- parameters behind the first, each with its comma and the spaces behind that; where no number is given, no space
 abbrev pub later_text : List JType → List ℕ → List ℕ

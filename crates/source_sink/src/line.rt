@@ -1,5 +1,5 @@
 // A line of a list, and what a list says of a method. `lists` and `index` stand above.
-ghost use Rattle.std.specs.Prelude.{◌≡◌};
+ghost use Rattle.std.specs.Prelude.{◌≡◌, ◌↔◌, ◌⊎◌, IsTrue};
 ghost use Rattle.source_sink.specs.ReadingLists.{is_same, adds};
 
 use clean_base::Name;
@@ -10,6 +10,17 @@ use jimple_tree::Sig;
 pub struct Kind {
     pub source: bool,
     pub sink: bool,
+}
+
+/// What one of two kinds says.
+pub fn either(one: Kind, other: Kind) -> Kind
+    ensures source { IsTrue result.source ↔ (IsTrue one.source ⊎ IsTrue other.source) }
+    ensures sink { IsTrue result.sink ↔ (IsTrue one.sink ⊎ IsTrue other.sink) }
+{
+    Kind {
+        source: one.source || other.source,
+        sink: one.sink || other.sink,
+    }
 }
 
 /// A line of a list.

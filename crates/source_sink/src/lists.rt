@@ -1,17 +1,18 @@
-// Lists of sources and sinks: read line by line, and asked by signature. `cursor`, `line` and `index` stand below.
-ghost use Rattle.std.specs.Prelude.{◌≡◌, ◌↔◌, ◌==◌, List, length, drop, IfOk, IfErr, IsTrue, MatchResult, true};
+// Lists of sources and sinks: read line by line, and asked by signature. `cursor` and `line` stand below.
+ghost use Rattle.std.specs.Prelude.{◌≡◌, ◌↔◌, ◌==◌, List, map, length, drop, IfOk, IfErr, IsTrue, MatchResult, true};
 ghost use Rattle.std.specs.List.{list_all};
 ghost use Rattle.jimple_tree.specs.declared.tree.Sig.{Sig};
 ghost use Rattle.source_sink.specs.declared.line.Line.{Line};
+ghost use Rattle.name_index.specs.Index.{IsIndex};
 ghost use Rattle.source_sink.specs.Lists.{AreLines, Refuses, Says};
-ghost use Rattle.source_sink.specs.ReadingLists.{is_bare, is_built, read_mark, read_line, AreOnlyLines, NoLinesBut};
+ghost use Rattle.source_sink.specs.ReadingLists.{is_bare, is_built, read_mark, read_line, name_of, AreOnlyLines, NoLinesBut};
 ghost use Rattle.source_sink.specs.Reading.{Gives};
 
 use crate::cursor::{Cursor, Miss, Spaced};
-use crate::index::{Index, index_of};
 use crate::line::{Kind, Line, with_line};
 use clean_base::{InputFault, Name, Stop};
 use jimple_tree::{JType, Sig};
+use name_index::NameIndex;
 use std::alloc::{AllocError, Global};
 use std::marker::Model;
 
@@ -19,19 +20,31 @@ use std::marker::Model;
 #[derive(Debug, Drop)]
 pub struct Lists {
     lines: Vec<Line>,
-    index: Index,
+    index: NameIndex,
 }
 
 impl Model for Lists {
-    ghost use Rattle.std.specs.Prelude.{List, length};
+    ghost use Rattle.std.specs.Prelude.{List, map};
+    ghost use Rattle.name_index.specs.Index.{IsIndex};
     ghost use Rattle.source_sink.specs.declared.line.Line.{Line};
-    ghost use Rattle.source_sink.specs.Index.{IsIndex};
+    ghost use Rattle.source_sink.specs.ReadingLists.{name_of};
 
     ghost Value = { List Line };
 
     ghost view = { λ s. s.lines.items };
 
-    ghost invariant = { λ s. IsIndex s.lines.items (length s.lines.items) s.index };
+    ghost invariant = { λ s. IsIndex (map name_of s.lines.items) s.index };
+}
+
+// The index of the lines by their methods' names.
+fn index_of(alloc: Global, lines: &[Line]) -> Result<NameIndex, AllocError>
+    ensures { IfOk result (IsIndex (map name_of lines.now)) }
+{
+    let mut index = NameIndex::new(alloc);
+    for (number, line) in lines.iter().enumerate() {
+        index.add(alloc, &line.sig.name, number)?;
+    }
+    Ok(index)
 }
 
 // The lines, with their index.
@@ -126,15 +139,12 @@ impl Lists {
         ensures sink { IsTrue result.sink ↔ Says self.now (record sig.now { class = class.now }) (λ (l : Line). l.sink) }
     {
         let lines = self.lines.as_slice();
-        let earlier = self.index.earlier.as_slice();
         let mut kind = Kind {
             source: false,
             sink: false,
         };
-        let mut next = self.index.last.get(&sig.name).copied();
-        'named: while let Some(number) = next {
-            kind = with_line(kind, &lines[number], class, sig);
-            next = earlier[number];
+        for number in self.index.places(&sig.name) {
+            kind = with_line(kind, &lines[*number], class, sig);
         }
         kind
     }

@@ -1,7 +1,5 @@
-pub mod Appended
 pub mod Each
 pub mod Locals
 pub mod Params
 pub mod Parts
-pub mod Sample
 pub mod Steps

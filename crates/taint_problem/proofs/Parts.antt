@@ -4,9 +4,9 @@ use Rattle.clean_base.specs.declared.ids.MethodId.{MethodId}
 use Rattle.clean_base.specs.declared.ids.StmtId.{StmtId}
 use Rattle.ifds_model.specs.declared.node.Leak.{Leak}
 use Rattle.ifds_model.specs.declared.node.Move.{Move}
-use Rattle.taint_problem.specs.Code.{before, Follows}
+use Rattle.taint_problem.specs.Code.{before, IsSuccessor}
 use Rattle.taint_problem.specs.Flow.{Over, Passes, Enters}
-use Rattle.taint_problem.specs.Machine.{IsOpen, Behind}
+use Rattle.taint_problem.specs.Machine.{IsOpenCall, Behind}
 use Rattle.taint_problem.specs.Moves.{Gives, Keeps, Image, ToEach, to, into, CallsOut}
 use Rattle.taint_problem.specs.Only.{IsOnly}
 use Rattle.taint_problem.specs.declared.code.CallView.{CallView}
@@ -71,14 +71,14 @@ over_moves view at f ts k g only_kept only_given = each_splits ts (λ x. k ≡ S
     ))
 
 -- a statement is one open call
-pub one_call : (view : View) (c d : CallView) (m n : MethodId) → IsOpen view c m → IsOpen view d n → (c ≡ d) × (m ≡ n)
+pub one_call : (view : View) (c d : CallView) (m n : MethodId) → IsOpenCall view c m → IsOpenCall view d n → (c ≡ d) × (m ≡ n)
 one_call view c d m n first second = (
     let same : c ≡ d = let e = sym first.0 ∙ second.0 in cc in
     (same, let e : Some m ≡ Some n = sym first.1 ∙ ap (λ (k : CallView). k.target) same ∙ second.1 in cc)
     )
 
 -- behind an open call
-pub behind_call : (view : View) (at : StmtId) (f : Fact) (call : CallView) (target : MethodId) → IsOpen view call target → (g : Fact) → Behind view at f g ↔ Passes call f g
+pub behind_call : (view : View) (at : StmtId) (f : Fact) (call : CallView) (target : MethodId) → IsOpenCall view call target → (g : Fact) → Behind view at f g ↔ Passes call f g
 behind_call view at f call target is_open g = (
   (λ behind. elim behind [
     | inl passes ↦ subst (λ (c : CallView). Passes c f g) (one_call view passes.0 call passes.1 target passes.2 is_open).0 passes.3
@@ -88,29 +88,29 @@ behind_call view at f call target is_open g = (
 )
 
 -- what passes it
-pub passing : (view : View) (at : StmtId) (f : Fact) (call : CallView) (target : MethodId) (o : Option Fact) → IsOpen view call target → IsOnly (Passes call f) o → (g : Fact) → Behind view at f g ↔ (o ≡ Some g)
+pub passing : (view : View) (at : StmtId) (f : Fact) (call : CallView) (target : MethodId) (o : Option Fact) → IsOpenCall view call target → IsOnly (Passes call f) o → (g : Fact) → Behind view at f g ↔ (o ≡ Some g)
 passing view at f call target o is_open only g =
     let behind = behind_call view at f call target is_open g in
     let one = only_some (Passes call f) o only g in
     ((λ is. one.0 (behind.0 is)), (λ is. behind.1 (one.1 is)))
 
 -- behind any other statement
-pub behind_other : (view : View) (at : StmtId) (f : Fact) → ((call : CallView) (target : MethodId) → IsOpen view call target → ⊥) → (g : Fact) → Behind view at f g ↔ Over view at f g
+pub behind_other : (view : View) (at : StmtId) (f : Fact) → ((call : CallView) (target : MethodId) → IsOpenCall view call target → ⊥) → (g : Fact) → Behind view at f g ↔ Over view at f g
 behind_other view at f closed g = (
   (λ behind. elim behind [ inl passes ↦ absurd (closed passes.0 passes.1 passes.2) | inr over ↦ over.1 ]),
   (λ over. inr (closed, over)),
 )
 
 -- to the successors of a statement
-pub to_successors : (code : Code) (at : StmtId) (ts : List StmtId) (set : Fact → Type 0) → ((t : StmtId) → Follows code at t ↔ Contains ts t)
-    → (m : Move Fact Leak) → ((next : StmtId) × Follows code at next × Image set (to (before next)) m) ↔ ToEach ts set m
+pub to_successors : (code : Code) (at : StmtId) (ts : List StmtId) (set : Fact → Type 0) → ((t : StmtId) → IsSuccessor code at t ↔ Contains ts t)
+    → (m : Move Fact Leak) → ((next : StmtId) × IsSuccessor code at next × Image set (to (before next)) m) ↔ ToEach ts set m
 to_successors code at ts set these m = (
   (λ goes. (goes.0, (these goes.0).0 goes.1, goes.2)),
   (λ is. (is.0, (these is.0).1 is.1, is.2)),
 )
 
 -- the moves into a method, from one open call
-pub call_moves : (view : View) (at : StmtId) (f : Fact) (call : CallView) (target : MethodId) → IsOpen view call target → (m : Move Fact Leak) → CallsOut view at f m ↔ Image (Enters call f) (into at target) m
+pub call_moves : (view : View) (at : StmtId) (f : Fact) (call : CallView) (target : MethodId) → IsOpenCall view call target → (m : Move Fact Leak) → CallsOut view at f m ↔ Image (Enters call f) (into at target) m
 call_moves view at f call target is_open m = (
   (λ calls.
       let one = one_call view calls.0 call calls.1 target calls.2 is_open in

@@ -9,9 +9,9 @@ use Rattle.ifds_model.specs.declared.node.Leak.{Leak}
 use Rattle.ifds_model.specs.declared.node.Move.{Move}
 use Rattle.ifds_model.specs.declared.node.Move.TheVariants.{Go, Call, Exit, Mark}
 use Rattle.ifds_model.specs.declared.node.Node.{Node}
-use Rattle.taint_problem.specs.Code.{before, StandsAt, Follows}
+use Rattle.taint_problem.specs.Code.{before, StandsAt, IsSuccessor}
 use Rattle.taint_problem.specs.Flow.{Enters, Exits, Returns, Leaks}
-use Rattle.taint_problem.specs.Machine.{IsOpen, Behind, Step, Back}
+use Rattle.taint_problem.specs.Machine.{IsOpenCall, Behind, Step, Back}
 use Rattle.taint_problem.specs.Moves.{ToEach, to, GoesOn, CallsOut, GoesOut, MarksLeak, CallsAt, ComesBack}
 use Rattle.taint_problem.specs.Only.{IsOnly}
 use Rattle.taint_problem.specs.declared.code.CallView.{CallView}
@@ -50,7 +50,7 @@ step_splits code view n f here (Call at e) = (
       inl (inr (
         entered.0,
         e.method,
-        subst (λ (v : View). IsOpen v entered.0 e.method) (same_view code n view step.0 here step.1) entered.1,
+        subst (λ (v : View). IsOpenCall v entered.0 e.method) (same_view code n view step.0 here step.1) entered.1,
         (e.fact, entered.3, ap (λ (s : StmtId). let m : Move Fact Leak = Call s e in m) step.2 ∙ ap (λ (c : Context Fact). let m : Move Fact Leak = Call n.stmt c in m) (context_is e _ entered.2)),
       ))),
   (λ split. elim split [
@@ -64,7 +64,7 @@ step_splits code view n f here (Call at e) = (
             (cc),
             (
               calls.0,
-              subst (IsOpen view calls.0) (sym (ap (λ (c : Context Fact). c.method) same)) calls.2,
+              subst (IsOpenCall view calls.0) (sym (ap (λ (c : Context Fact). c.method) same)) calls.2,
               ap (λ (c : Context Fact). c.dir) same,
               subst (Enters calls.0 f) (sym (ap (λ (c : Context Fact). c.fact) same)) calls.3.1,
             ),
@@ -102,7 +102,7 @@ no_step code n f none (Exit x) step = none step.0 step.1
 no_step code n f none (Mark l) step = none step.0 step.1
 
 -- the moves to the successors of an open call
-pub back_each : (code : Code) (call : CallView) (at : StmtId) (x : Fact) (ts : List StmtId) (o : Option Fact) → ((t : StmtId) → Follows code at t ↔ Contains ts t) → IsOnly (Returns call x) o
+pub back_each : (code : Code) (call : CallView) (at : StmtId) (x : Fact) (ts : List StmtId) (o : Option Fact) → ((t : StmtId) → IsSuccessor code at t ↔ Contains ts t) → IsOnly (Returns call x) o
     → (m : Move Fact Leak) → ComesBack code call at x m ↔ ToEach ts (λ g. o ≡ Some g) m
 back_each code call at x ts o these one m =
     let each = to_successors code at ts (Returns call x) these m in

@@ -19,8 +19,8 @@ abbrev pub StandsAt : Code → Node → View → Type 0
 StandsAt code n view = (n.dir ≡ Forward) × At code.views n.stmt.0 view
 
 -- the second statement is a successor of the first
-abbrev pub Follows : Code → StmtId → StmtId → Type 0
-Follows code s t = (ts : List StmtId) × At code.nexts s.0 ts × Contains ts t
+abbrev pub IsSuccessor : Code → StmtId → StmtId → Type 0
+IsSuccessor code s t = (ts : List StmtId) × At code.nexts s.0 ts × Contains ts t
 
 -- a context of the method starts at this statement
 abbrev pub StartsAt : Code → MethodId → StmtId → Type 0
@@ -37,7 +37,7 @@ pub record IsWhole (code : Code) : Type 0 where
   -- each method starts in its own body
   pub starts : (m : MethodId) (s : StmtId) → StartsAt code m s → At code.owners s.0 m
   -- a successor stands in the same method
-  pub inside : (s t : StmtId) → Follows code s t → (m : MethodId) × At code.owners s.0 m × At code.owners t.0 m
+  pub inside : (s t : StmtId) → IsSuccessor code s t → (m : MethodId) × At code.owners s.0 m × At code.owners t.0 m
   -- open calls are of methods, and their arguments can be numbered
   pub targets : (call : CallView) (m : MethodId) → Contains code.views (Call call) → call.target ≡ Some m → m.0 < length code.firsts
   pub args : (call : CallView) (m : MethodId) → Contains code.views (Call call) → call.target ≡ Some m → length call.args ≤ 256

@@ -11,7 +11,7 @@ use Rattle.ifds_model.specs.declared.node.Leak.{Leak}
 use Rattle.ifds_model.specs.declared.node.Move.{Move}
 use Rattle.ifds_model.specs.declared.node.Move.TheVariants.{Go, Call, Exit, Mark}
 use Rattle.ifds_model.specs.declared.node.Node.{Node}
-use Rattle.taint_problem.specs.Code.{before, Follows, IsWhole, method_of}
+use Rattle.taint_problem.specs.Code.{before, IsSuccessor, IsWhole, method_of}
 use Rattle.taint_problem.specs.Machine.{Start, Step, Back, machine}
 use Rattle.taint_problem.specs.declared.code.Code.{Code}
 use Rattle.taint_problem.specs.declared.code.View.{View}
@@ -22,7 +22,7 @@ owner_at : (code : Code) (s : StmtId) (m : MethodId) → At code.owners s.0 m �
 owner_at code s m at = get_or_default code.owners s.0 (record { 0 = 0 }) m at.0 ∙ at.1
 
 -- a successor of a statement stands in its method
-follows_inside : (code : Code) → IsWhole code → (s t : StmtId) → Follows code s t → method_of code t ≡ method_of code s
+follows_inside : (code : Code) → IsWhole code → (s t : StmtId) → IsSuccessor code s t → method_of code t ≡ method_of code s
 follows_inside code whole s t follows = let same = whole.inside s t follows in owner_at code t same.0 same.2 ∙ sym (owner_at code s same.0 same.1)
 
 pub one_start : (code : Code) (root : MethodId) → root.0 < length code.firsts → (n : Node) × ((m : Node) → Start code (machine code root).root m ↔ (m ≡ n))

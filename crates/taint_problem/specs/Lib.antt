@@ -5,4 +5,3 @@ pub mod Machine
 pub mod Moves
 pub mod Only
 pub mod Props
-pub mod Sample

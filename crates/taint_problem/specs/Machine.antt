@@ -9,7 +9,7 @@ use Rattle.ifds_model.specs.declared.node.Leak.{Leak}
 use Rattle.ifds_model.specs.declared.node.Move.{Move}
 use Rattle.ifds_model.specs.declared.node.Move.TheVariants as moves
 use Rattle.ifds_model.specs.declared.node.Node.{Node}
-use Rattle.taint_problem.specs.Code.{before, StandsAt, Follows, StartsAt}
+use Rattle.taint_problem.specs.Code.{before, StandsAt, IsSuccessor, StartsAt}
 use Rattle.taint_problem.specs.Flow.{Over, Enters, Passes, Exits, Returns, Leaks}
 use Rattle.taint_problem.specs.declared.code.CallView.{CallView}
 use Rattle.taint_problem.specs.declared.code.Code.{Code}
@@ -19,19 +19,19 @@ use Rattle.taint_problem.specs.declared.fact.Fact.{Fact}
 use Rattle.taint_problem.specs.declared.fact.Fact.TheVariants.{Zero}
 
 -- an open call of this method
-abbrev pub IsOpen : View → CallView → MethodId → Type 0
-IsOpen view call m = (view ≡ Call call) × (call.target ≡ Some m)
+abbrev pub IsOpenCall : View → CallView → MethodId → Type 0
+IsOpenCall view call m = (view ≡ Call call) × (call.target ≡ Some m)
 
 -- what holds behind a statement in its own method: past an open call, over any other statement
 abbrev pub Behind : View → StmtId → Fact → Fact → Type 0
-Behind view at f g = ((call : CallView) × (m : MethodId) × IsOpen view call m × Passes call f g)
-    ⊎ (((call : CallView) (m : MethodId) → IsOpen view call m → ⊥) × Over view at f g)
+Behind view at f g = ((call : CallView) × (m : MethodId) × IsOpenCall view call m × Passes call f g)
+    ⊎ (((call : CallView) (m : MethodId) → IsOpenCall view call m → ⊥) × Over view at f g)
 
 -- from a fact before a statement
 abbrev pub Step : Code → Node → Fact → Move Fact Leak → Type 0
-Step code n f (moves.Go m g) = (view : View) × StandsAt code n view × Behind view n.stmt f g × ((next : StmtId) × Follows code n.stmt next × (m ≡ before next))
+Step code n f (moves.Go m g) = (view : View) × StandsAt code n view × Behind view n.stmt f g × ((next : StmtId) × IsSuccessor code n.stmt next × (m ≡ before next))
 Step code n f (moves.Call at e) = (view : View) × StandsAt code n view × (at ≡ n.stmt)
-    × ((call : CallView) × IsOpen view call e.method × (e.dir ≡ Forward) × Enters call f e.fact)
+    × ((call : CallView) × IsOpenCall view call e.method × (e.dir ≡ Forward) × Enters call f e.fact)
 Step code n f (moves.Exit x) = (view : View) × StandsAt code n view × Exits view f x
 Step code n f (moves.Mark l) = (view : View) × StandsAt code n view × Leaks view n.stmt f l
 
@@ -42,7 +42,7 @@ Start code e n = (e.dir ≡ Forward) × StartsAt code e.method n.stmt × (n ≡ 
 -- what a method hands back goes on behind the call
 abbrev pub Back : Code → StmtId → Fact → Move Fact Leak → Type 0
 Back code at x (moves.Go m g) = (call : CallView) × (target : MethodId) × StandsAt code (before at) (Call call) × (call.target ≡ Some target)
-    × Returns call x g × ((next : StmtId) × Follows code at next × (m ≡ before next))
+    × Returns call x g × ((next : StmtId) × IsSuccessor code at next × (m ≡ before next))
 Back code at x _ = ⊥
 
 -- entered at a method, forward, with zero

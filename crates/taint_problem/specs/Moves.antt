@@ -9,9 +9,9 @@ use Rattle.ifds_model.specs.declared.node.Leak.{Leak}
 use Rattle.ifds_model.specs.declared.node.Move.{Move}
 use Rattle.ifds_model.specs.declared.node.Move.TheVariants as moves
 use Rattle.ifds_model.specs.declared.node.Node.{Node}
-use Rattle.taint_problem.specs.Code.{before, StandsAt, Follows}
+use Rattle.taint_problem.specs.Code.{before, StandsAt, IsSuccessor}
 use Rattle.taint_problem.specs.Flow.{GivesSource, GivesTaint, Stays, Enters, Exits, Returns, Leaks, held_by}
-use Rattle.taint_problem.specs.Machine.{IsOpen, Behind}
+use Rattle.taint_problem.specs.Machine.{IsOpenCall, Behind}
 use Rattle.taint_problem.specs.declared.code.CallView.{CallView}
 use Rattle.taint_problem.specs.declared.code.Code.{Code}
 use Rattle.taint_problem.specs.declared.code.View.{View}
@@ -50,11 +50,11 @@ into at m f = moves.Call at (record { method = m; dir = Forward; fact = f })
 
 -- behind a statement
 abbrev pub GoesOn : Code → View → StmtId → Fact → Move Fact Leak → Type 0
-GoesOn code view at f m = (next : StmtId) × Follows code at next × Image (Behind view at f) (to (before next)) m
+GoesOn code view at f m = (next : StmtId) × IsSuccessor code at next × Image (Behind view at f) (to (before next)) m
 
 -- into the method that an open call calls
 abbrev pub CallsOut : View → StmtId → Fact → Move Fact Leak → Type 0
-CallsOut view at f m = (call : CallView) × (target : MethodId) × IsOpen view call target × Image (Enters call f) (into at target) m
+CallsOut view at f m = (call : CallView) × (target : MethodId) × IsOpenCall view call target × Image (Enters call f) (into at target) m
 
 -- out of the method
 abbrev pub GoesOut : View → Fact → Move Fact Leak → Type 0
@@ -74,4 +74,4 @@ CallsAt code at call target = StandsAt code (before at) (Call call) × (call.tar
 
 -- behind an open call, from what the method hands back
 abbrev pub ComesBack : Code → CallView → StmtId → Fact → Move Fact Leak → Type 0
-ComesBack code call at x m = (next : StmtId) × Follows code at next × Image (Returns call x) (to (before next)) m
+ComesBack code call at x m = (next : StmtId) × IsSuccessor code at next × Image (Returns call x) (to (before next)) m

@@ -2,7 +2,7 @@
 use clean_base::{LocalId, Plain, StmtId};
 
 /// What holds a value: a local, or a place that a call hands over.
-#[derive(Clone, Copy, Debug, PartialEq, Eq, PartialOrd, Ord, Hash)]
+#[derive(Clone, Copy, Debug, PartialEq, Eq, Hash)]
 pub enum Base {
     Local(LocalId),
     /// The parameter with this number, counted from 0.
@@ -12,14 +12,14 @@ pub enum Base {
 }
 
 /// A value from a source, and what holds it.
-#[derive(Clone, Copy, Debug, PartialEq, Eq, PartialOrd, Ord, Hash)]
+#[derive(Clone, Copy, Debug, PartialEq, Eq, Hash)]
 pub struct Taint {
     pub source: StmtId,
     pub base: Base,
 }
 
 /// A data-flow fact: zero, which holds wherever the code is reached, or a taint.
-#[derive(Clone, Copy, Debug, PartialEq, Eq, PartialOrd, Ord, Hash)]
+#[derive(Clone, Copy, Debug, PartialEq, Eq, Hash)]
 pub enum Fact {
     Zero,
     Tainted(Taint),

@@ -13,6 +13,3 @@ pub mod problem;
 pub use code::{CallView, Code, View};
 pub use fact::{Base, Fact, Taint};
 pub use problem::TaintProblem;
-
-#[cfg(test)]
-mod tests;

@@ -2,11 +2,11 @@
 // and its leak; and the moves to the successors of a call, of what comes back. The rules over one fact, and where
 // statements stand, are below, the problem that is made of this above.
 ghost use Rattle.std.specs.Prelude.{◌≡◌, ◌⊎◌, ◌≤◌, OnOk, IfSome, IfNone, length, Some};
-ghost use Rattle.ifds_model.specs.Machine.{AppendsSet};
+ghost use Rattle.clean_base.specs.Lists.{AppendsSet};
 ghost use Rattle.clean_base.specs.declared.ids.MethodId.{MethodId};
 ghost use Rattle.taint_problem.specs.Code.{StandsAt, IsWhole};
 ghost use Rattle.taint_problem.specs.Flow.{Over, Enters};
-ghost use Rattle.taint_problem.specs.Machine.{IsOpen, Behind, Step, Back};
+ghost use Rattle.taint_problem.specs.Machine.{IsOpenCall, Behind, Step, Back};
 ghost use Rattle.taint_problem.specs.Moves.{Image, ToEach, into, GoesOn, CallsOut, GoesOut, MarksLeak, EntersFirst, CallsAt, ComesBack};
 ghost use Rattle.taint_problem.specs.declared.code.CallView.{CallView};
 
@@ -14,7 +14,7 @@ use crate::flow::{exits, given, held_by, kept, leak_of, local_of, passes, return
 use crate::places::{before, nexts_of, view_at};
 use crate::{Base, CallView, Code, Fact, Taint, View};
 use clean_base::{LocalId, MethodId, StmtId};
-use ifds_model::{Context, Dir, Leak, Move, Node};
+use ifds_model::{Context, Dir, Leak, Move, Node, push_exit, push_go, push_mark};
 use std::alloc::AllocError;
 
 // An open call, with the method that it calls.
@@ -26,8 +26,8 @@ struct OpenCall<'a> {
 
 // The open call that a statement is.
 fn open_call(view: &View) -> Option<OpenCall<'_>>
-    ensures some { IfSome result (λ o. IsOpen view.now o.call.now o.target) }
-    ensures none { IfNone result ((call : CallView) (target : MethodId) → IsOpen view.now call target → ⊥) }
+    ensures some { IfSome result (λ o. IsOpenCall view.now o.call.now o.target) }
+    ensures none { IfNone result ((call : CallView) (target : MethodId) → IsOpenCall view.now call target → ⊥) }
 {
     let View::Call(call) = view else {
         return None;
@@ -41,10 +41,7 @@ fn go_each(nexts: &[StmtId], fact: Fact, out: &mut Vec<Move<Fact, Leak>>) -> Res
     ensures { OnOk result (AppendsSet (ToEach nexts.now (λ g. g ≡ fact)) out.old.items out.new.items) }
 {
     for next in nexts {
-        out.push(Move::Go {
-            node: before(*next),
-            fact,
-        })?;
+        push_go(out, before(*next), &fact)?;
     }
     Ok(())
 }
@@ -183,7 +180,7 @@ fn call_out(
     fact: Fact,
     out: &mut Vec<Move<Fact, Leak>>,
 ) -> Result<(), AllocError>
-    requires { (call : CallView) (target : MethodId) → IsOpen view.now call target → length call.args ≤ 256 }
+    requires { (call : CallView) (target : MethodId) → IsOpenCall view.now call target → length call.args ≤ 256 }
     ensures { OnOk result (AppendsSet (CallsOut view.now at fact) out.old.items out.new.items) }
 {
     match open_call(view) {
@@ -197,7 +194,7 @@ fn go_out(view: &View, fact: Fact, out: &mut Vec<Move<Fact, Leak>>) -> Result<()
     ensures { OnOk result (AppendsSet (GoesOut view.now fact) out.old.items out.new.items) }
 {
     if let Some(fact) = exits(view, fact) {
-        out.push(Move::Exit { fact })?;
+        push_exit(out, &fact)?;
     }
     Ok(())
 }
@@ -212,7 +209,7 @@ fn mark(
     ensures { OnOk result (AppendsSet (MarksLeak view.now at fact) out.old.items out.new.items) }
 {
     if let Some(leak) = leak_of(view, at, fact) {
-        out.push(Move::Mark { mark: leak })?;
+        push_mark(out, &leak)?;
     }
     Ok(())
 }
@@ -225,7 +222,7 @@ fn go_on_or_call(
     fact: Fact,
     out: &mut Vec<Move<Fact, Leak>>,
 ) -> Result<(), AllocError>
-    requires { (call : CallView) (target : MethodId) → IsOpen view.now call target → length call.args ≤ 256 }
+    requires { (call : CallView) (target : MethodId) → IsOpenCall view.now call target → length call.args ≤ 256 }
     ensures { OnOk result (AppendsSet (λ m. GoesOn code.now view.now at fact m ⊎ CallsOut view.now at fact m) out.old.items out.new.items) }
 {
     go_on(code, view, at, fact, out)?;

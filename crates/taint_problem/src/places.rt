@@ -1,7 +1,7 @@
 // Where statements of a program stand: at nodes, before their successors, in methods and at their starts. Programs stand
 // below, their moves above.
 ghost use Rattle.std.specs.Prelude.{◌≡◌, ◌↔◌, IfSome, IfNone, Contains};
-ghost use Rattle.taint_problem.specs.Code.{before, StandsAt, Follows, method_of};
+ghost use Rattle.taint_problem.specs.Code.{before, StandsAt, IsSuccessor, method_of};
 ghost use Rattle.taint_problem.specs.Machine.{Start};
 ghost use Rattle.taint_problem.specs.Only.{IsOnly};
 ghost use Rattle.taint_problem.specs.declared.code.View.{View};
@@ -33,7 +33,7 @@ pub(crate) fn view_at(code: &Code, node: Node) -> Option<&View>
 
 // The successors of a statement.
 pub(crate) fn nexts_of(code: &Code, at: StmtId) -> &[StmtId]
-    ensures { (t : StmtId) → Follows code.now at t ↔ Contains result.now t }
+    ensures { (t : StmtId) → IsSuccessor code.now at t ↔ Contains result.now t }
 {
     match code.nexts.as_slice().get(at.0 as usize) {
         Some(nexts) => nexts.as_slice(),

@@ -1,57 +1,46 @@
-use Rattle.std.proofs.Common.{◌≡◌, ◌<◌, ℕ, List, true≢false, get_or, Some, None, subst, sym, ap, ◌∙◌, arith}
-use Rattle.std.specs.Prelude.{Option}
+use Rattle.std.proofs.Common.{List, get_or, map, refl, sym, subst, ◌∙◌, arith, true≢false}
+use Rattle.std.proofs.lemmas.List.Elements.{Contains-get_or}
+use Rattle.clean_base.specs.Lists.{At}
 use Rattle.jimple_tree.specs.Bodies.{bodied}
 use Rattle.jimple_tree.specs.declared.tree.Method.{Method}
-use Rattle.app_program.specs.Index.{IsLast}
-use Rattle.app_program.proofs.Named.{distinct_bodied, fewer, left, next_last, none_before, found}
+use Rattle.name_index.proofs.Named.{place_within}
+use Rattle.app_program.specs.Index.{name_of}
+use Rattle.app_program.proofs.Named.{distinct_bodied, found, none_at_all, none_more, none_yet, not_found}
 use Rattle.app_program.proofs.Numbers.{places_length}
 use Rattle.app_program.proofs.calls.find.Goals as goal
+
+pub loop-number-init : goal.loop-number-init
+loop-number-init c = none_yet c.args.class.now c.args.sig.now
 
 pub method_at-method-requires-clause-number : goal.method_at-method-requires-clause-number
 method_at-method-requires-clause-number c =
     let methods = bodied c.args.class.now.methods in
-    let within = c.named.invariant.within in
-    let now : IsLast methods c.args.sig.now.name c.named.invariant.from (Some c.in-Some.number) =
-    subst (λ (at : Option ℕ). IsLast methods c.args.sig.now.name c.named.invariant.from at) c.in-Some.is c.named.invariant.next in
-    let below = now.0 in
+    let numbers = c.places-number-items.result.now in
+    let exact = c.places-number-items.ensures.exact (map name_of methods) c.requires.index (get_or numbers c.loop-number.number-index 0) in
+    let within = place_within name_of methods _ c.args.sig.now.name (exact.0 (Contains-get_or numbers c.loop-number.number-index 0 c.loop-number-test.true)) in
     let long = places_length c.args.class.now.methods methods c.args.places.now c.requires.places in
-    omega (arith, within, below, long)
+    omega (arith, within, long)
 
 pub returns-then-is_named : goal.returns-then-is_named
 returns-then-is_named c =
-    let methods = bodied c.args.class.now.methods in
-    let j = c.in-Some.number in
-    let method = c.method_at-method.result.now in
-    let within = c.named.invariant.within in
-    let now : IsLast methods c.args.sig.now.name c.named.invariant.from (Some j) = subst (λ (at : Option ℕ). IsLast methods c.args.sig.now.name c.named.invariant.from at) c.in-Some.is c.named.invariant.next in
-    let at : method ≡ get_or methods j method = sym c.method_at-method.ensures.1 ∙ ap (λ (xs : List Method). get_or (bodied xs) j method) c.as_slice-methods.ensures in
-    found c.args.class.now (distinct_bodied c.args.class.now c.requires.within) c.args.sig.now _ (method, ((let below = now.0 in omega (arith, within, below)), sym at), c.is_named.ensures.0 c.if-is_named.true)
-
-pub named-smaller : goal.named-smaller
-named-smaller c =
-    let methods = bodied c.args.class.now.methods in
-    let j = c.in-Some.number in
-    let name = c.args.sig.now.name in
-    let from = c.named.invariant.from in
-    let now : IsLast methods name from (Some j) = subst (λ (at : Option ℕ). IsLast methods name from at) c.in-Some.is c.named.invariant.next in
-    let next = next_last methods c.as_slice-earlier.result.now c.args.index.now c.as_slice-earlier.ensures.value c.requires.index name j from c.method_at-method.result.now now.0 c.named.invariant.within (now.1 c.method_at-method.result.now) in
-    subst (λ (at : Option ℕ). left (get_or c.as_slice-earlier.result.now j None) < left at) (sym c.in-Some.is) (fewer methods name j _ next)
-
-pub named-preserved : goal.named-preserved
-named-preserved c =
     let class = c.args.class.now in
-    let methods = bodied class.methods in
-    let sig = c.args.sig.now in
-    let j = c.in-Some.number in
     let method = c.method_at-method.result.now in
-    let from = c.named.invariant.from in
-    let within = c.named.invariant.within in
-    let now : IsLast methods sig.name from (Some j) = subst (λ (at : Option ℕ). IsLast methods sig.name from at) c.in-Some.is c.named.invariant.next in
-    let at : method ≡ get_or methods j method = sym c.method_at-method.ensures.1 ∙ ap (λ (xs : List Method). get_or (bodied xs) j method) c.as_slice-methods.ensures in
-    record {
-      from = j;
-      within = let below = now.0 in omega (arith, within, below);
-      next = next_last methods c.as_slice-earlier.result.now c.args.index.now c.as_slice-earlier.ensures.value c.requires.index sig.name j from method now.0 within (now.1 method);
-      later = none_before class sig j from method (let below = now.0 in omega (arith, within, below)) c.named.invariant.later now.2 at
-          (λ same. true≢false (sym (c.is_named.ensures.1 same) ∙ c.if-is_named.false));
-    }
+    let number = get_or c.places-number-items.result.now c.loop-number.number-index 0 in
+    let at : At (bodied class.methods) number method = subst (λ (ms : List Method). At (bodied ms) number method) c.as_slice-methods.ensures c.method_at-method.ensures in
+    found class (distinct_bodied class c.requires.within) c.args.sig.now _ (method, at, c.is_named.ensures.0 c.if-is_named.true)
+
+pub loop-number-preserved : goal.loop-number-preserved
+loop-number-preserved c =
+    let class = c.args.class.now in
+    let method = c.method_at-method.result.now in
+    let numbers = c.places-number-items.result.now in
+    let number = get_or numbers c.loop-number.number-index 0 in
+    let at : At (bodied class.methods) number method = subst (λ (ms : List Method). At (bodied ms) number method) c.as_slice-methods.ensures c.method_at-method.ensures in
+    none_more class c.args.sig.now numbers c.loop-number.number-index number method c.loop-number-test.true refl at
+    (λ same. true≢false (sym (c.is_named.ensures.1 same) ∙ c.if-is_named.false)) c.loop-number.invariant
+
+pub returns : goal.returns
+returns c =
+    let class = c.args.class.now in
+    not_found class c.args.sig.now _ refl (none_at_all class c.args.sig.now c.places-number-items.result.now c.loop-number.number-index c.loop-number-test.false
+    (c.places-number-items.ensures.exact (map name_of (bodied class.methods)) c.requires.index) c.loop-number.invariant)

@@ -1,45 +1,58 @@
-use Rattle.std.proofs.Common.{◌≡◌, ◌<◌, ℕ, List, true≢false, get_or, Some, None, subst, sym, ap, ◌∙◌, arith}
-use Rattle.std.specs.Prelude.{Option}
+use Rattle.std.proofs.Common.{◌≡◌, ◌<◌, List, length, get_or, map, refl, sym, subst, ◌∙◌, arith, true≢false}
+use Rattle.std.proofs.lemmas.List.Elements.{Contains-get_or}
+use Rattle.clean_base.specs.Lists.{At}
 use Rattle.jimple_tree.specs.declared.tree.Method.{Method}
-use Rattle.class_table.specs.Index.{IsLast}
-use Rattle.class_table.proofs.Signed.{fewer, left, next_last, none_before, found}
+use Rattle.name_index.proofs.Named.{place_within}
+use Rattle.class_table.specs.Index.{name_of}
+use Rattle.class_table.proofs.Signed.{found, none_more, none_yet, not_found}
 use Rattle.class_table.proofs.index.find.Goals as goal
+
+pub loop-place-init : goal.loop-place-init
+loop-place-init c = none_yet c.args.class.now c.args.sig.now
+
+pub bounds-methods-place : goal.bounds-methods-place
+bounds-methods-place c =
+    let methods = c.args.class.now.methods in
+    let places = c.places-place-items.result.now in
+    let k = get_or places c.loop-place.place-index 0 in
+    let exact = c.places-place-items.ensures.exact (map name_of methods) c.requires.index k in
+    let within = place_within name_of methods k c.args.sig.now.name (exact.0 (Contains-get_or places c.loop-place.place-index 0 c.loop-place-test.true)) in
+    subst (λ (ms : List Method). k < length ms) (sym c.as_slice-methods.ensures) within
+
+pub offset_bounds-methods-place : goal.offset_bounds-methods-place
+offset_bounds-methods-place c =
+    let methods = c.args.class.now.methods in
+    let places = c.places-place-items.result.now in
+    let k = get_or places c.loop-place.place-index 0 in
+    let exact = c.places-place-items.ensures.exact (map name_of methods) c.requires.index k in
+    let within = place_within name_of methods k c.args.sig.now.name (exact.0 (Contains-get_or places c.loop-place.place-index 0 c.loop-place-test.true)) in
+    let below : k < length c.as_slice-methods.result.now = subst (λ (ms : List Method). k < length ms) (sym c.as_slice-methods.ensures) within in
+    let room = c.as_slice-methods.type_inv.1 in
+    omega (arith, below, room)
 
 pub returns-then-is_named : goal.returns-then-is_named
 returns-then-is_named c =
     let methods = c.args.class.now.methods in
-    let j = c.in-Some.place in
+    let places = c.places-place-items.result.now in
+    let k = get_or places c.loop-place.place-index 0 in
     let method = c.index-methods-place.result in
-    let within = c.named.invariant.within in
-    let now : IsLast methods c.args.sig.now.name c.named.invariant.from (Some j) = subst (λ (at : Option ℕ). IsLast methods c.args.sig.now.name c.named.invariant.from at) c.in-Some.is c.named.invariant.next in
-    let at : method ≡ get_or methods j method = c.index-methods-place.is ∙ ap (λ (xs : List Method). get_or xs j method) c.as_slice-methods.ensures in
-    found c.args.class.now c.args.sig.now c.requires.formed j method (((let below = now.0 in omega (arith, within, below)), sym at), c.is_named.ensures.0 c.if-is_named.true)
+    let exact = c.places-place-items.ensures.exact (map name_of methods) c.requires.index k in
+    let within = place_within name_of methods k c.args.sig.now.name (exact.0 (Contains-get_or places c.loop-place.place-index 0 c.loop-place-test.true)) in
+    let at : At methods k method = (within, subst (λ (ms : List Method). get_or ms k method ≡ method) c.as_slice-methods.ensures (sym c.index-methods-place.is)) in
+    found c.args.class.now c.args.sig.now c.requires.formed k method (at, c.is_named.ensures.0 c.if-is_named.true)
 
-pub named-smaller : goal.named-smaller
-named-smaller c =
+pub loop-place-preserved : goal.loop-place-preserved
+loop-place-preserved c =
     let methods = c.args.class.now.methods in
-    let j = c.in-Some.place in
-    let name = c.args.sig.now.name in
-    let from = c.named.invariant.from in
+    let places = c.places-place-items.result.now in
+    let k = get_or places c.loop-place.place-index 0 in
     let method = c.index-methods-place.result in
-    let now : IsLast methods name from (Some j) = subst (λ (at : Option ℕ). IsLast methods name from at) c.in-Some.is c.named.invariant.next in
-    let next = next_last methods c.as_slice-earlier.result.now c.args.index.now c.as_slice-earlier.ensures.value c.requires.index name j from method now.0 c.named.invariant.within (now.1 method) in
-    subst (λ (at : Option ℕ). left (get_or c.as_slice-earlier.result.now j None) < left at) (sym c.in-Some.is) (fewer methods name j _ next)
+    let exact = c.places-place-items.ensures.exact (map name_of methods) c.requires.index k in
+    let within = place_within name_of methods k c.args.sig.now.name (exact.0 (Contains-get_or places c.loop-place.place-index 0 c.loop-place-test.true)) in
+    let at : At methods k method = (within, subst (λ (ms : List Method). get_or ms k method ≡ method) c.as_slice-methods.ensures (sym c.index-methods-place.is)) in
+    none_more c.args.class.now c.args.sig.now places c.loop-place.place-index k method c.loop-place-test.true refl at (λ same. true≢false (sym (c.is_named.ensures.1 same) ∙ c.if-is_named.false)) c.loop-place.invariant
 
-pub named-preserved : goal.named-preserved
-named-preserved c =
-    let methods = c.args.class.now.methods in
-    let sig = c.args.sig.now in
-    let j = c.in-Some.place in
-    let method = c.index-methods-place.result in
-    let from = c.named.invariant.from in
-    let within = c.named.invariant.within in
-    let now : IsLast methods sig.name from (Some j) = subst (λ (at : Option ℕ). IsLast methods sig.name from at) c.in-Some.is c.named.invariant.next in
-    let at : method ≡ get_or methods j method = c.index-methods-place.is ∙ ap (λ (xs : List Method). get_or xs j method) c.as_slice-methods.ensures in
-    record {
-      from = j;
-      within = let below = now.0 in omega (arith, within, below);
-      next = next_last methods c.as_slice-earlier.result.now c.args.index.now c.as_slice-earlier.ensures.value c.requires.index sig.name j from method now.0 within (now.1 method);
-      later = none_before methods sig j from method (let below = now.0 in omega (arith, within, below)) c.named.invariant.later now.2 at
-          (λ same. true≢false (sym (c.is_named.ensures.1 same) ∙ c.if-is_named.false));
-    }
+pub returns : goal.returns
+returns c =
+    not_found c.args.class.now c.args.sig.now c.places-place-items.result.now c.loop-place.place-index c.loop-place-test.false
+    (c.places-place-items.ensures.exact (map name_of c.args.class.now.methods) c.requires.index) c.loop-place.invariant _ refl

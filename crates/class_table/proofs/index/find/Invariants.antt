@@ -1,15 +1,6 @@
-use Rattle.std.proofs.Common.{◌≤◌, ℕ, length}
-use Rattle.class_table.specs.Index.{IsLast}
-use Rattle.class_table.proofs.Signed.{NoneFrom, left}
+use Rattle.std.proofs.Common.{take}
+use Rattle.class_table.proofs.Signed.{NoneAmong}
 use Rattle.class_table.proofs.index.find.Given as goal
 
-abbrev pub invariant-named : goal.invariant-named
-invariant-named l = record {
-  from : ℕ;
-  within : from ≤ length l.class.methods;
-  next : IsLast l.class.methods l.sig.name from l.next;
-  later : NoneFrom l.class.methods l.sig from;
-}
-
-abbrev pub decreases-named : goal.decreases-named
-decreases-named l = left l.next
+abbrev pub invariant-loop-place : goal.invariant-loop-place
+invariant-loop-place l = NoneAmong l.class l.sig (take l.place-index l.place-items)

@@ -11,6 +11,6 @@ returns-in-Ok c =
     let n = c.args.number in
     let found = c.index-as_slice-number.result in
     let within : n < length (class_names cs) = subst (λ (l : List (List ℕ)). n < length l) c.requires.keys c.requires.number in
-    let named : name_at cs n ≡ c.in-Ok.class =
+    let named : name_at cs n ≡ c.in-Ok.name =
     get_or_default (class_names cs) n [] found within ∙ ap (λ (l : List (List ℕ)). get_or l n found) (sym (c.as_slice.ensures.keys ∙ c.requires.keys)) ∙ sym c.index-as_slice-number.is ∙ sym c.in-Ok.ensures in
     cycle c.requires.few c.requires.distinct (subst (IsFirstCycle cs) named c.requires.cycle)

@@ -1,10 +1,10 @@
 use Rattle.clean_top.specs.Report.{stmt_text}
-use Rattle.clean_top.proofs.Appended.{three_parts}
+use Rattle.clean_top.proofs.Appended.{two_parts}
 use Rattle.clean_top.proofs.report.write_stmt.Goals as goal
 
 pub returns : goal.returns
 unfolding stmt_text
 returns c =
     let method = rw c.method_of.ensures at c.in_ok-write_method_at.ensures in
-    let place = rw c.place_of.ensures at c.write_number.ensures in
-    three_parts c.write_number.result _ _ _ _ _ _ _ method c.in_ok-extend_from_slice.ensures.items place
+    let place = rw c.place_of.ensures at c.write_place.ensures in
+    two_parts c.write_place.result _ _ _ _ _ method place

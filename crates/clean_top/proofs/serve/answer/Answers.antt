@@ -1,29 +1,33 @@
-use Rattle.std.proofs.Common.{sym, subst}
-use Rattle.clean_top.specs.Answer.{Run, Serves}
-use Rattle.clean_top.specs.Told.{told}
-use Rattle.clean_top.specs.Words.{Asked}
+use Rattle.std.proofs.lemmas.Result.{err_from_is_err_and}
+use Rattle.clean_top.proofs.Among.{some_files, work_halts_among}
+use Rattle.clean_top.proofs.ReadSo.{texts_halt, work_halts, work_ends}
+use Rattle.clean_top.specs.Meaning.{work}
 use Rattle.clean_top.proofs.serve.answer.Goals as goal
 
-pub returns-in-Ok-Some-clause-serves : goal.returns-in-Ok-Some-clause-serves
-returns-in-Ok-Some-clause-serves g c = λ asked asks.
-    let run : Run = record {
-      holds = g.S.Shelf.holds c.args.shelf.now;
-      before = g.S.Shelf.faults c.args.shelf.now;
-      now = g.S.Shelf.faults c.serve.new.shelf;
-      old = g.K.Sink.taken c.args.out.now;
-      new = g.K.Sink.taken c.serve.new.out;
-      first = g.K.Sink.faults c.args.out.now;
-      last = g.K.Sink.faults c.serve.new.out;
-    } in
-    let once = rw c.in-Ok-Some.field-0-is at c.in-Ok-Some.ensures.some in
-    subst (λ (a : Asked). Serves run a c.serve.result) (sym (once.1 asked asks)) c.serve.ensures.serves
+pub returns-in_err-texts-clause-read : goal.returns-in_err-texts-clause-read
+returns-in_err-texts-clause-read g c =
+    let p = err_from_is_err_and c.from_residual.result c.from_residual.ensures.1 in
+    let command = c.args.command.now in
+    rw (p.1, p.2) (texts_halt _ _ _ command.names (work command.task) c.in_err-texts.field-0.0 c.in_err-texts.ensures.read)
 
-pub returns-in-Ok-Some-clause-usage : goal.returns-in-Ok-Some-clause-usage
-returns-in-Ok-Some-clause-usage g c = λ usage.
-    let once = rw c.in-Ok-Some.field-0-is at c.in-Ok-Some.ensures.some in
-    absurd (usage (told c.in-Ok-Some.asked) once.0)
+pub returns-in_err-work-clause-read : goal.returns-in_err-work-clause-read
+returns-in_err-work-clause-read g c =
+    let p = err_from_is_err_and c.from_residual-in_err-work.result c.from_residual-in_err-work.ensures.1 in
+    let command = c.args.command.now in
+    rw (p.1, p.2) (work_halts _ _ _ command.names (work command.task) c.in_ok-texts.texts c.in_ok-texts.ensures.read.so _ c.in_err-work.ensures)
 
-pub returns-in-Ok-None-clause-serves : goal.returns-in-Ok-None-clause-serves
-returns-in-Ok-None-clause-serves g c = λ asked asks.
-    let none = rw c.in-Ok-None.field-0-is at c.in-Ok-None.ensures.none in
-    absurd (none asked asks)
+pub returns-clause-read : goal.returns-clause-read
+returns-clause-read g c =
+    let command = c.args.command.now in
+    work_ends _ _ _ command.names (work command.task) c.in_ok-texts.texts c.in_ok-texts.ensures.read.so _ c.in_ok-work.ensures
+
+pub returns-in_err-texts-clause-among : goal.returns-in_err-texts-clause-among
+returns-in_err-texts-clause-among g c =
+    let p = err_from_is_err_and c.from_residual.result c.from_residual.ensures.1 in
+    rw (p.1, p.2) c.in_err-texts.ensures.among
+
+pub returns-in_err-work-clause-among : goal.returns-in_err-work-clause-among
+returns-in_err-work-clause-among g c =
+    let p = err_from_is_err_and c.from_residual-in_err-work.result c.from_residual-in_err-work.ensures.1 in
+    let command = c.args.command.now in
+    rw (p.1, p.2) (work_halts_among _ (some_files command c.requires) command.task c.in_ok-texts.texts c.in_ok-texts.ensures.of _ c.in_err-work.ensures)

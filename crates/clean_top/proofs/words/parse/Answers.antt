@@ -1,23 +1,24 @@
-use Rattle.std.proofs.Common.{◌≡◌, [], sym, ◌∙◌, subst, arith, rules}
-use Rattle.std.proofs.lemmas.List.{get_or_read}
-use Rattle.source_sink.specs.Signature.{Spells}
-use Rattle.clean_top.proofs.Asked.{asks_once}
-use Rattle.clean_top.specs.Told.{told}
-use Rattle.clean_top.specs.Words.{word}
+use Rattle.clean_top.proofs.Asked.{unformed, unspelled, untasked, asks_for, asks_once}
 use Rattle.clean_top.proofs.words.parse.Goals as goal
 
-pub returns-in-None-clause-none : goal.returns-in-None-clause-none
-returns-in-None-clause-none c = λ asked asks.
-    let read = get_or_read c.args.words.now 2 _ (omega (arith, asks.form.count)) c.index-words-2.is [] in
-    let same : word c.args.words.now 2 ≡ c.as_bytes.result.now = sym (c.as_bytes.ensures.value ∙ c.as_str-text.ensures ∙ read) in
-    (rw c.in-None.is at c.in_ok-read_sig.ensures.none) asked.entry (subst (Spells asked.entry) same asks.entry)
+pub returns-in_default-clause-none : goal.returns-in_default-clause-none
+returns-in_default-clause-none c = unformed c.args.words.now c.in_default.ensures.none
 
-pub returns-in-Some-clause-some : goal.returns-in-Some-clause-some
-returns-in-Some-clause-some c =
-    let form = c.has_form.ensures.0 (search rules) in
-    let read = get_or_read c.args.words.now 2 _ (omega (arith, form.count)) c.index-words-2.is [] in
-    let same : c.as_bytes.result.now ≡ word c.args.words.now 2 = c.as_bytes.ensures.value ∙ c.as_str-text.ensures ∙ read in
-    let found = rw (c.in-Some.is, same) at c.in_ok-read_sig.ensures.some in
-    asks_once c.args.words.now (told (record { entry = c.in-Some.entry; lists = c.as_str.result; file = c.as_str-in-Some.result })) form found.0 found.1
-    (c.as_str.ensures ∙ get_or_read c.args.words.now 4 _ (omega (arith, form.count)) c.index-words-4.is [])
-    (c.as_str-in-Some.ensures ∙ get_or_read c.args.words.now 5 _ (omega (arith, form.count)) c.index-words-5.is [])
+pub returns-in_default-2-clause-none : goal.returns-in_default-2-clause-none
+returns-in_default-2-clause-none c =
+    unspelled c.args.words.now _ _ _ _ c.in-Some.ensures.some (rw (c.in_default-2.is, c.as_bytes.ensures.value) at c.in_ok-entry.ensures.none)
+
+pub returns-in_default-task_of-clause-none : goal.returns-in_default-task_of-clause-none
+returns-in_default-task_of-clause-none c =
+    let found = rw (c.in-Some-2.is, c.as_bytes.ensures.value) at c.in_ok-entry.ensures.some in
+    untasked c.args.words.now _ _ _ _ c.in-Some.ensures.some c.in-Some-2.entry found.1 c.in_default-task_of.ensures.none
+
+pub returns-clause-some : goal.returns-clause-some
+returns-clause-some c =
+    let found = rw (c.in-Some-2.is, c.as_bytes.ensures.value) at c.in_ok-entry.ensures.some in
+    let places = c.in-Some.places in
+    let task = c.in-Some-task_of.task in
+    let words = c.args.words.now in (
+      asks_for words _ _ places.list.now places.classes.now c.in-Some.ensures.some c.in-Some-2.entry found.1 task c.in_ok-names.names c.in-Some-task_of.ensures.some c.in_ok-names.ensures found.0,
+      asks_once words _ _ places.list.now places.classes.now c.in-Some.ensures.some c.in-Some-2.entry found.1 task c.in_ok-names.names c.in-Some-task_of.ensures.some c.in_ok-names.ensures,
+    )

@@ -10,8 +10,8 @@ take-taken-requires-clause-idle g c = first_idle _ c.requires.workers c.requires
 pub returns-clause-step : goal.returns-clause-step
 returns-clause-step g c = (over_now _ _ c.requires c.take-taken.result (sym c.taken_item.ensures ∙ c.in-None.is) c.take-taken.ensures.idle c.take-taken.ensures.finished).0
 
-pub carry_out-requires : goal.carry_out-requires
-carry_out-requires g c =
+pub carry_out-requires-clause-flies : goal.carry_out-requires-clause-flies
+carry_out-requires-clause-flies g c =
     let t = taken_first _ _ c.take-taken.result c.in-Some.item (sym c.taken_item.ensures ∙ c.in-Some.is) c.take-taken.ensures.took in
     hand_now _ _ c.in-Some.item t.1 t.0
 

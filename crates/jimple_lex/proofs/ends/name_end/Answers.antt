@@ -1,5 +1,5 @@
 use Rattle.std.proofs.Common.{◌∙◌}
-use Rattle.jimple_lex.specs.Bytes.{is_letter}
+use Rattle.jimple_words.specs.Bytes.{is_letter}
 use Rattle.jimple_lex.proofs.Places.{tested}
 use Rattle.jimple_lex.proofs.Numbers.{named_there, no_number, no_name_number}
 use Rattle.jimple_lex.proofs.ends.name_end.Goals as goal

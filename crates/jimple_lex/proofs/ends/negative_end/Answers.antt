@@ -1,4 +1,4 @@
-use Rattle.jimple_lex.specs.Bytes.{is_digit}
+use Rattle.jimple_words.specs.Bytes.{is_digit}
 use Rattle.jimple_lex.proofs.Places.{tested}
 use Rattle.jimple_lex.proofs.Numbers.{negative_there, no_number, no_sign_number}
 use Rattle.jimple_lex.proofs.ends.negative_end.Goals as goal

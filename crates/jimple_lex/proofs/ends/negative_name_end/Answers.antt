@@ -1,5 +1,5 @@
 use Rattle.std.proofs.Common.{ap}
-use Rattle.jimple_lex.specs.Bytes.{is_letter}
+use Rattle.jimple_words.specs.Bytes.{is_letter}
 use Rattle.jimple_lex.proofs.Places.{tested}
 use Rattle.jimple_lex.proofs.Numbers.{named_negative_there, no_number, no_name_number}
 use Rattle.jimple_lex.proofs.ends.negative_name_end.Goals as goal

@@ -1,5 +1,5 @@
 use Rattle.std.proofs.Common.{◌∙◌, ap, suc, drop, slice_index}
-use Rattle.jimple_lex.specs.Bytes.{is_digit}
+use Rattle.jimple_words.specs.Bytes.{is_digit}
 use Rattle.jimple_lex.proofs.Fronts.{negative_there, digit_behind}
 use Rattle.jimple_lex.proofs.front.begins_negative.Goals as goal
 

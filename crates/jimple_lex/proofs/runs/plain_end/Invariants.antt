@@ -1,5 +1,5 @@
 use Rattle.std.proofs.Common.{◌≡◌, ◌≤◌, ◌<◌, ◌-◌, ℕ, length, true, slice_index}
-use Rattle.jimple_lex.specs.Bytes.{is_plain}
+use Rattle.jimple_words.specs.Bytes.{is_plain}
 use Rattle.jimple_lex.proofs.runs.plain_end.Given as goal
 
 abbrev pub invariant-loop-to : goal.invariant-loop-to

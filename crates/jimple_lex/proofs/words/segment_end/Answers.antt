@@ -1,5 +1,5 @@
 use Rattle.std.proofs.Common.{◌∙◌, refl}
-use Rattle.jimple_lex.specs.Bytes.{begins_plain}
+use Rattle.jimple_words.specs.Bytes.{begins_plain}
 use Rattle.jimple_lex.proofs.Places.{plain_there, no_segment, within_by, tested}
 use Rattle.jimple_lex.proofs.words.segment_end.Goals as goal
 

@@ -6,6 +6,4 @@ pub returns-then-not-is_quoted : goal.returns-then-not-is_quoted
 returns-then-not-is_quoted c =
     let not_quoted = c.if-not-is_quoted.true in
     let same = plain c.args.word.now (search (rules, not_quoted)) in
-    let made = c.from_vec.ensures in
-    let items = c.in_ok-from_slice.ensures.items in
-    search (rules, made, items, same)
+    rw same c.copy.ensures

@@ -1,7 +1,21 @@
 use Rattle.std.proofs.Common.{◌≡◌, ◌≤◌, ℕ, All, length, get_or, arith}
 use Rattle.std.proofs.lemmas.List.{get_or_default}
+use Rattle.std.proofs.lemmas.List.Elements.{Contains-get_or}
 use Rattle.reach_rows.proofs.Words.{pass_falls}
 use Rattle.reach_rows.proofs.closure.grow.Goals as goal
+
+pub grow_all-grown-requires-clause-nodes : goal.grow_all-grown-requires-clause-nodes
+grow_all-grown-requires-clause-nodes c k d below = (c.requires.nodes (get_or c.args.order.now k d)).0 (Contains-get_or c.args.order.now k d below)
+
+pub loop-grown-preserved : goal.loop-grown-preserved
+loop-grown-preserved c =
+    let says = c.grow_all-grown.ensures in
+    let was = c.loop-grown.invariant in
+    record {
+      kept = λ a b has. says.grows.kept a b (was.kept a b has);
+      sound = λ sound. says.sound (was.sound sound);
+      closed = λ none a below. says.closed none a ((c.requires.nodes a).1 below);
+    }
 
 pub loop-grown-smaller : goal.loop-grown-smaller
 loop-grown-smaller c =

@@ -1,6 +1,7 @@
 use Rattle.std.proofs.Common.{arith, refl, ap, ◌∙◌}
 use Rattle.entry_tables.specs.Tables.{Tables}
 use Rattle.solver_core.specs.Numbers.{context_at}
+use Rattle.solver_core.specs.Seen.{view_of_parts}
 use Rattle.solver_core.proofs.Starts.{begin, one_more_as, all_of}
 use Rattle.solver_core.proofs.moves.take_starts.Goals as goal
 
@@ -25,7 +26,7 @@ loop-node-preserved g c =
       fit = did.fit;
       taken = λ commits lag takes period max_edges.
           let machine = (g.P.Problem.machine c.args.problem.now) in
-          one_more_as machine (context_at machine.root c.args.parts.now.tables.contexts c.args.context) c.args.fact c.args.starts.now c.loop-node.node-index _ _ _ _ (context_at machine.root c.loop-node.parts.tables.contexts c.args.context)
+          one_more_as machine (context_at machine.root c.args.parts.now.tables.contexts c.args.context) c.args.fact c.args.starts.now c.loop-node.node-index _ (view_of_parts machine c.args.parts.now commits lag takes period max_edges) (view_of_parts machine c.loop-node.parts commits lag takes period max_edges) (view_of_parts machine c.take_go.new.parts commits lag takes period max_edges) (context_at machine.root c.loop-node.parts.tables.contexts c.args.context)
           (ap (λ (t : Tables g.row.P-Fact.Denot). context_at machine.root t.contexts c.args.context) inv.tables) (omega arith) (inv.taken commits lag takes period max_edges) (did.taken commits lag takes period max_edges);
       tables = did.tables ∙ inv.tables;
       flights = did.flights ∙ inv.flights;

@@ -1,6 +1,6 @@
 use Rattle.taint_problem.specs.Machine.{Back}
 use Rattle.taint_problem.specs.Moves.{ComesBack}
-use Rattle.taint_problem.proofs.Appended.{appends_same_if, appends_none}
+use Rattle.clean_base.proofs.Appended.{appends_same_if, appends_none}
 use Rattle.taint_problem.proofs.Steps.{back_call, no_back}
 use Rattle.taint_problem.proofs.moves.back_at.Goals as goal
 

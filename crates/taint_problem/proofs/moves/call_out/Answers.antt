@@ -1,6 +1,6 @@
 use Rattle.taint_problem.specs.Flow.{Enters}
 use Rattle.taint_problem.specs.Moves.{Image, into, CallsOut}
-use Rattle.taint_problem.proofs.Appended.{appends_same_if}
+use Rattle.clean_base.proofs.Appended.{appends_same_if}
 use Rattle.taint_problem.proofs.Parts.{call_moves}
 use Rattle.taint_problem.proofs.moves.call_out.Goals as goal
 

@@ -1,6 +1,6 @@
 use Rattle.std.proofs.Common.{◌≡◌, Some}
 use Rattle.taint_problem.specs.Moves.{ToEach, ComesBack}
-use Rattle.taint_problem.proofs.Appended.{appends_same_if}
+use Rattle.clean_base.proofs.Appended.{appends_same_if}
 use Rattle.taint_problem.proofs.Steps.{back_each}
 use Rattle.taint_problem.proofs.moves.come_back.Goals as goal
 

@@ -2,7 +2,7 @@ use Rattle.std.proofs.Common.{length}
 use Rattle.taint_problem.specs.Flow.{Enters}
 use Rattle.taint_problem.specs.Moves.{Image, into, EntersFirst}
 use Rattle.taint_problem.specs.declared.fact.Fact.TheVariants.{Tainted}
-use Rattle.taint_problem.proofs.Appended.{appends_same_if}
+use Rattle.clean_base.proofs.Appended.{appends_same_if}
 use Rattle.taint_problem.proofs.Params.{enters_all}
 use Rattle.taint_problem.proofs.Parts.{same_image}
 use Rattle.taint_problem.proofs.moves.enter.Goals as goal

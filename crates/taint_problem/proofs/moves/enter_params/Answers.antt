@@ -1,7 +1,7 @@
 use Rattle.std.proofs.Common.{◌≡◌, ℕ, ◌+◌, length, get_or, Some, None, arith, subst}
-use Rattle.ifds_model.specs.Machine.{AppendsSet}
+use Rattle.clean_base.specs.Lists.{AppendsSet}
 use Rattle.taint_problem.specs.Moves.{Image, into, EntersFirst}
-use Rattle.taint_problem.proofs.Appended.{appends_both}
+use Rattle.clean_base.proofs.Appended.{appends_both}
 use Rattle.taint_problem.proofs.Params.{param_more}
 use Rattle.taint_problem.proofs.moves.enter_params.Goals as goal
 

@@ -1,4 +1,4 @@
-use Rattle.ifds_model.specs.Machine.{AppendsSet}
+use Rattle.clean_base.specs.Lists.{AppendsSet}
 use Rattle.taint_problem.specs.Moves.{Image, into, EntersFirst}
 use Rattle.taint_problem.proofs.moves.enter_params.Given as goal
 

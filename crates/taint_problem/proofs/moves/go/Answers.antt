@@ -1,6 +1,6 @@
 use Rattle.std.proofs.Common.{◌≡◌, Some}
 use Rattle.taint_problem.specs.Moves.{ToEach}
-use Rattle.taint_problem.proofs.Appended.{appends_same_if}
+use Rattle.clean_base.proofs.Appended.{appends_same_if}
 use Rattle.taint_problem.proofs.Parts.{same_each}
 use Rattle.taint_problem.proofs.moves.go.Goals as goal
 

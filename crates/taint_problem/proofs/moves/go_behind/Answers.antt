@@ -2,7 +2,7 @@ use Rattle.std.proofs.Common.{◌≡◌, Some}
 use Rattle.taint_problem.specs.Flow.{Over}
 use Rattle.taint_problem.specs.Machine.{Behind}
 use Rattle.taint_problem.specs.Moves.{ToEach}
-use Rattle.taint_problem.proofs.Appended.{appends_same_if}
+use Rattle.clean_base.proofs.Appended.{appends_same_if}
 use Rattle.taint_problem.proofs.Parts.{same_each, passing, behind_other}
 use Rattle.taint_problem.proofs.moves.go_behind.Goals as goal
 

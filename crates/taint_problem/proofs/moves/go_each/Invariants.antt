@@ -1,5 +1,5 @@
 use Rattle.std.proofs.Common.{◌≡◌, take}
-use Rattle.ifds_model.specs.Machine.{AppendsSet}
+use Rattle.clean_base.specs.Lists.{AppendsSet}
 use Rattle.taint_problem.specs.Moves.{ToEach}
 use Rattle.taint_problem.proofs.moves.go_each.Given as goal
 

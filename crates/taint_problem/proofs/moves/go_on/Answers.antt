@@ -1,6 +1,6 @@
 use Rattle.taint_problem.specs.Machine.{Behind}
 use Rattle.taint_problem.specs.Moves.{ToEach, GoesOn}
-use Rattle.taint_problem.proofs.Appended.{appends_same_if}
+use Rattle.clean_base.proofs.Appended.{appends_same_if}
 use Rattle.taint_problem.proofs.Parts.{to_successors}
 use Rattle.taint_problem.proofs.moves.go_on.Goals as goal
 

@@ -1,6 +1,6 @@
 use Rattle.std.proofs.Common.{◌⊎◌}
 use Rattle.taint_problem.specs.Moves.{GoesOut, MarksLeak}
-use Rattle.taint_problem.proofs.Appended.{appends_both_if}
+use Rattle.clean_base.proofs.Appended.{appends_both_if}
 use Rattle.taint_problem.proofs.moves.go_out_or_mark.Goals as goal
 
 pub returns : goal.returns

@@ -1,7 +1,7 @@
 use Rattle.std.proofs.Common.{◌≡◌, Some}
 use Rattle.taint_problem.specs.Flow.{Over}
 use Rattle.taint_problem.specs.Moves.{ToEach}
-use Rattle.taint_problem.proofs.Appended.{appends_both_if}
+use Rattle.clean_base.proofs.Appended.{appends_both_if}
 use Rattle.taint_problem.proofs.Parts.{over_moves}
 use Rattle.taint_problem.proofs.moves.go_over.Goals as goal
 

@@ -1,7 +1,7 @@
 use Rattle.std.proofs.Common.{◌⊎◌}
 use Rattle.taint_problem.specs.Machine.{Step}
 use Rattle.taint_problem.specs.Moves.{GoesOn, CallsOut, GoesOut, MarksLeak}
-use Rattle.taint_problem.proofs.Appended.{appends_both_if}
+use Rattle.clean_base.proofs.Appended.{appends_both_if}
 use Rattle.taint_problem.proofs.Steps.{step_splits}
 use Rattle.taint_problem.proofs.moves.step_at.Goals as goal
 

@@ -3,7 +3,8 @@ use Rattle.std.proofs.lemmas.Result.{err_from_is_err_and}
 use Rattle.jimple_grammar.specs.declared.lexeme.Lexeme.{Lexeme}
 use Rattle.jimple_grammar.specs.Reading.{reading}
 use Rattle.jimple_grammar.specs.Grammar.{both}
-use Rattle.jimple_grammar.specs.Forms.{bodied, before_decl, ty, decl, room_behind, code_catches, code, catches, most_locals, block}
+use Rattle.clean_base.specs.Limits.{most_locals}
+use Rattle.jimple_grammar.specs.Forms.{bodied, before_decl, ty, decl, room_behind, code_catches, code, catches, block}
 use Rattle.jimple_grammar.proofs.Shorten.{shortens}
 use Rattle.jimple_grammar.proofs.Groups.{started, underway, failed, ended, end_failed}
 use Rattle.jimple_grammar.proofs.cursor.Cursor.block.Goals as goal

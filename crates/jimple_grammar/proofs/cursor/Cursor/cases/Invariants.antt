@@ -1,5 +1,5 @@
 use Rattle.std.proofs.Common.{length, [], ◌∷◌}
-use Rattle.jimple_grammar.specs.declared.kind.Kind.TheVariants as kinds
+use Rattle.jimple_words.specs.declared.kind.Kind.TheVariants as kinds
 use Rattle.jimple_grammar.specs.Reading.{reading}
 use Rattle.jimple_grammar.specs.Grammar.{ends}
 use Rattle.jimple_grammar.specs.Forms.{case, cases}

@@ -1,10 +1,11 @@
 use Rattle.std.proofs.Common.{[], ◌∷◌, ◌++◌, append_assoc, append-nil, sym, ◌∙◌, refl, pred}
 use Rattle.std.proofs.lemmas.Result.{err_from_is_err_and}
 use Rattle.jimple_grammar.specs.declared.raw.RawType.{RawType}
-use Rattle.jimple_grammar.specs.declared.kind.Kind.TheVariants as kinds
+use Rattle.jimple_words.specs.declared.kind.Kind.TheVariants as kinds
 use Rattle.jimple_grammar.specs.Reading.{reading}
 use Rattle.jimple_grammar.specs.Grammar.{ends}
-use Rattle.jimple_grammar.specs.Forms.{most_params, next_param, later_params}
+use Rattle.clean_base.specs.Limits.{most_params}
+use Rattle.jimple_grammar.specs.Forms.{next_param, later_params}
 use Rattle.jimple_grammar.proofs.Shorten.{shortens}
 use Rattle.jimple_grammar.proofs.Groups.{started, underway, failed, ended, less_one}
 use Rattle.jimple_grammar.proofs.cursor.Cursor.later_params.Goals as goal

@@ -1,5 +1,5 @@
 use Rattle.std.proofs.Common.{arith}
-use Rattle.jimple_grammar.specs.declared.kind.Kind.TheVariants as kinds
+use Rattle.jimple_words.specs.declared.kind.Kind.TheVariants as kinds
 use Rattle.jimple_grammar.specs.Forms.{sign, bracket_pair}
 use Rattle.jimple_grammar.proofs.Shrink.{shrinks}
 use Rattle.jimple_grammar.proofs.cursor.Cursor.member_type.Goals as goal

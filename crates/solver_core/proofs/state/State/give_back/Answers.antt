@@ -21,3 +21,9 @@ returns-in-Some-clause-event g c =
     let machine = g.P.Problem.machine c.self.inside.problem.now in
     let parts = c.self.inside.parts in
     rw (← c.self.view_is) (returned machine.root parts.tables.contexts parts.tables.callers parts.tables.exits parts.edges.edges parts.marks.items c.self.inside.commits c.self.inside.lag c.self.inside.period c.self.inside.max_edges parts.queue.items c.queue_work.new.queue.items parts.flights.items c.hand_back.new.flights.items c.in-Some.work c.args.w c.self.inside.takes c.queue_work.ensures.items c.in-Some.ensures.emptied c.in-Some.ensures.flew)
+
+pub returns-in-Some-clause-sound : goal.returns-in-Some-clause-sound
+returns-in-Some-clause-sound g c =
+    let machine = g.P.Problem.machine c.self.inside.problem.now in
+    let parts = c.self.inside.parts in
+    back_right machine (g.P.Problem.reaches c.self.inside.problem.now) _ _ c.self.invariant.2 c.args.w (returned machine.root parts.tables.contexts parts.tables.callers parts.tables.exits parts.edges.edges parts.marks.items c.self.inside.commits c.self.inside.lag c.self.inside.period c.self.inside.max_edges parts.queue.items c.queue_work.new.queue.items parts.flights.items c.hand_back.new.flights.items c.in-Some.work c.args.w c.self.inside.takes c.queue_work.ensures.items c.in-Some.ensures.emptied c.in-Some.ensures.flew)

@@ -1,17 +1,11 @@
-use Rattle.std.proofs.Common.{◌≤◌, ℕ, length}
+use Rattle.std.proofs.Common.{◌↔◌, IsTrue, take}
 use Rattle.source_sink.specs.declared.line.Line.{Line}
-use Rattle.source_sink.specs.Index.{IsLast}
-use Rattle.source_sink.proofs.Named.{Knows, asked, left}
+use Rattle.source_sink.specs.ReadingLists.{SaysAt}
+use Rattle.source_sink.proofs.Named.{asked}
 use Rattle.source_sink.proofs.lists.Lists.kind.Given as goal
 
-abbrev pub invariant-named : goal.invariant-named
-invariant-named l = record {
-  from : ℕ;
-  within : from ≤ length l.lines;
-  next : IsLast l.lines l.sig.name from l.next;
-  source : Knows l.lines (asked l.class l.sig) (λ (line : Line). line.source) from l.kind.source;
-  sink : Knows l.lines (asked l.class l.sig) (λ (line : Line). line.sink) from l.kind.sink;
+abbrev pub invariant-loop-number : goal.invariant-loop-number
+invariant-loop-number l = record {
+  source : IsTrue l.kind.source ↔ SaysAt l.lines (take l.number-index l.number-items) (asked l.class l.sig) (λ (line : Line). line.source);
+  sink : IsTrue l.kind.sink ↔ SaysAt l.lines (take l.number-index l.number-items) (asked l.class l.sig) (λ (line : Line). line.sink);
 }
-
-abbrev pub decreases-named : goal.decreases-named
-decreases-named l = left l.next

@@ -1,5 +1,5 @@
 use Rattle.taint_problem.specs.Machine.{Start}
-use Rattle.taint_problem.proofs.Appended.{appends_one}
+use Rattle.clean_base.proofs.Appended.{appends_one}
 use Rattle.taint_problem.proofs.problem.TaintProblemProblem.starts.Goals as goal
 
 pub returns-in_ok-push : goal.returns-in_ok-push

@@ -1,5 +1,5 @@
 use Rattle.taint_problem.specs.Machine.{Step}
-use Rattle.taint_problem.proofs.Appended.{appends_none}
+use Rattle.clean_base.proofs.Appended.{appends_none}
 use Rattle.taint_problem.proofs.Steps.{no_step}
 use Rattle.taint_problem.proofs.problem.TaintProblemProblem.step.Goals as goal
 

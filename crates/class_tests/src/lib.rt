@@ -1,0 +1,6 @@
+// Tests of graphs, of lists of sources and sinks, of tables of classes, of call graphs and of programs: rows of tables, worked
+// out by hand. It holds nothing else.
+#![tactic(auto)]
+
+#[cfg(test)]
+mod tests;

@@ -1,0 +1,3 @@
+pub mod ByLength
+pub mod Digits
+pub mod Tables

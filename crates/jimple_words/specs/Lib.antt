@@ -1,0 +1,4 @@
+pub mod Bytes
+pub mod Kind
+pub mod Kinds
+pub mod Sets

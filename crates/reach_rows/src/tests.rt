@@ -1,5 +1,0 @@
-// Small graphs.
-mod below;
-mod closure;
-mod graphs;
-mod order;
