@@ -1,0 +1,10 @@
+pub mod Places
+pub mod Plans
+pub mod Laid
+pub mod Sound
+pub mod Complete
+pub mod Body
+pub mod Made
+pub mod Fits
+pub mod Once
+pub mod Read

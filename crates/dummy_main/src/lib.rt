@@ -1,0 +1,17 @@
+// The components of an app: lists of them, and the class whose one method means exactly their lifecycles. Trees of classes
+// (`jimple_tree`) and the index of names stand below; nothing stands above yet.
+#![tactic(auto)]
+
+mod blocks;
+mod callback;
+pub mod component;
+mod entry;
+mod generate;
+mod invoke;
+mod line;
+mod list;
+mod parts;
+
+pub use component::{Component, ComponentKind};
+pub use generate::make;
+pub use list::read_components;
