@@ -2,8 +2,9 @@
 """Times turns: workers raise one number under a `worker_turn::Turn`, and under std's `Mutex`.
 
 Builds `bench/turn` over the repository's `clean_base` and `worker_turn` in a folder of its own, which takes some minutes,
-and prints millions of turns a second for 1, 2 and 4 workers that work for 0, 100 and 1,000 ns between two turns, beside
-what the work alone would allow. Run it on a machine with four processors and nothing else running:
+and prints millions of turns a second for 1, 2 and 4 workers that work for 0, 100, 1,000 and 10,000 ns between two turns,
+beside as many processes that share nothing. Each figure is the best of three. Run it on a machine with four processors
+and nothing else running:
 
     bench/turn.py [FOLDER]
 
@@ -18,7 +19,7 @@ import time
 
 ROOT = pathlib.Path(__file__).resolve().parent.parent
 CRATES = "clean_base: thiserror\nworker_turn: clean_base atomic_table\nturn_bench: clean_base worker_turn\n"
-SECONDS = 1.0
+SECONDS = 0.4
 
 
 def build(folder):
@@ -39,38 +40,37 @@ def build(folder):
     return program
 
 
-def wall(program, kind, workers, work, rounds):
-    start = time.perf_counter()
-    subprocess.run([program, kind, str(workers), str(work), str(rounds)], check=False)
-    return time.perf_counter() - start
+def wall(program, kind, workers, work, rounds, processes=1):
+    """The least seconds of three runs of so many processes side by side."""
+    seconds = []
+    for _ in range(3):
+        start = time.perf_counter()
+        words = [program, kind, str(workers), str(work), str(rounds)]
+        for process in [subprocess.Popen(words) for _ in range(processes)]:
+            process.wait()
+        seconds.append(time.perf_counter() - start)
+    return min(seconds)
 
 
-def rate(program, kind, workers, work):
-    """Turns of all workers a second, over about so many seconds."""
-    rounds = 1000
-    while wall(program, kind, workers, work, rounds) < SECONDS / 8:
-        rounds *= 4
-    rounds *= 8
-    return workers * rounds / wall(program, kind, workers, work, rounds)
-
-
-def loops_of(program, nanoseconds):
+def loops_in(program, nanoseconds):
     """How often the program's loop of work runs in so many nanoseconds."""
-    rounds, loops = 1000, 10000
-    base = wall(program, "mutex", 1, 0, rounds)
-    return round(nanoseconds * loops * rounds / (wall(program, "mutex", 1, loops, rounds) - base) / 1e9)
+    loops, rounds = 10000, 2000
+    loop = wall(program, "mutex", 1, loops, rounds) / (loops * rounds)
+    return round(nanoseconds / 1e9 / loop)
 
 
 def main():
     folder = pathlib.Path(sys.argv[1] if len(sys.argv) > 1 else tempfile.mkdtemp())
     folder.mkdir(parents=True, exist_ok=True)
     program = build(folder)
-    print("workers  ns of work  turn, M/s  mutex, M/s")
-    for nanoseconds in (0, 100, 1000):
-        work = loops_of(program, nanoseconds)
+    print("workers  ns of work  turn, M/s  mutex, M/s  apart, M/s")
+    for nanoseconds in (0, 100, 1000, 10000):
+        work = loops_in(program, nanoseconds)
+        rounds = round(SECONDS * 1e9 / max(nanoseconds, 100))
         for workers in (1, 2, 4):
-            turn, mutex = (rate(program, kind, workers, work) / 1e6 for kind in ("turn", "mutex"))
-            print(f"{workers:7}  {nanoseconds:10}  {turn:9.2f}  {mutex:10.2f}", flush=True)
+            runs = (("turn", workers, 1), ("mutex", workers, 1), ("mutex", 1, workers))
+            turn, mutex, apart = (workers * rounds / wall(program, kind, n, work, rounds, processes) / 1e6 for kind, n, processes in runs)
+            print(f"{workers:7}  {nanoseconds:10}  {turn:9.2f}  {mutex:10.2f}  {apart:10.2f}", flush=True)
 
 
 if __name__ == "__main__":
