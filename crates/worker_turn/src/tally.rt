@@ -1,5 +1,5 @@
 // A value that is a number alone: an example of what a turn may hold, and of a round.
-ghost use Rattle.std.specs.Prelude.{◌≡◌, ◌+◌, ℕ, false, MatchBool};
+ghost use Rattle.std.specs.Prelude.{◌≡◌, ◌≤◌, ◌+◌, ◌^◌, ℕ, false, MatchBool};
 
 use crate::pass::Pass;
 use crate::turn::Turn;
@@ -29,7 +29,7 @@ impl Counted for Tally {
 pub fn raise<R: Wait>(rt: &R, turn: &Turn<Tally>, pass: &mut Pass<Tally>, by: u64) -> bool
     requires own { pass.old.turn ≡ turn.now }
     requires out { pass.old.inside ≡ false }
-    ensures { MatchBool result (pass.new ≡ record pass.old { seen = pass.new.seen; made = pass.old.made + by }) (pass.new ≡ record pass.old { seen = pass.new.seen }) }
+    ensures { MatchBool result (pass.new ≡ record pass.old { seen = pass.new.seen; made = pass.old.made + by }) ((pass.new ≡ record pass.old { seen = pass.new.seen }) × (2 ^ 64 ≤ pass.new.seen + by)) }
 {
     let mut guard = turn.enter(rt, pass);
     let old = guard.value().commits;
