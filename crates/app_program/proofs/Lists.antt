@@ -15,7 +15,8 @@ use Rattle.jimple_tree.specs.declared.tree.Catch.{Catch}
 use Rattle.jimple_tree.specs.declared.tree.Method.{Method}
 use Rattle.jimple_tree.specs.declared.tree.Stmt.{Stmt}
 use Rattle.app_program.specs.Program.{AreOf, AreNexts}
-use Rattle.app_program.specs.Successors.{Succ, AreSuccessors, IsOwn, Handles, IsCaught, stmt_at}
+use Rattle.jimple_tree.specs.Successors.{Succ}
+use Rattle.app_program.specs.Successors.{AreSuccessors, IsOwn, Handles, IsCaught, stmt_at}
 use Rattle.app_program.proofs.Places.{both_more, none_more, none_caught, caught_more, at_once, succ_of, succ_below}
 
 -- each statement itself

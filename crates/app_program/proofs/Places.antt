@@ -10,8 +10,9 @@ use Rattle.jimple_tree.specs.declared.tree.Case.{Case}
 use Rattle.jimple_tree.specs.declared.tree.Catch.{Catch}
 use Rattle.jimple_tree.specs.declared.tree.Stmt.{Stmt}
 use Rattle.jimple_tree.specs.declared.tree.Stmt.TheVariants as stmts
-use Rattle.app_program.specs.Successors.{GoesOn, Succ, IsOwn, Handles, IsCaught}
-use Rattle.app_program.specs.Successors.Succ.{falls, jumps, caught}
+use Rattle.jimple_tree.specs.Successors.{GoesOn, Succ}
+use Rattle.app_program.specs.Successors.{IsOwn, Handles, IsCaught}
+use Rattle.jimple_tree.specs.Successors.Succ.{falls, jumps, caught}
 
 pub none_more : (A P : Type 0) → (P → ⊥) → A ↔ (A ⊎ P)
 none_more A P never = (there, back) where

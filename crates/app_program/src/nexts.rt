@@ -9,7 +9,8 @@ ghost use Rattle.jimple_tree.specs.WellFormed.{BodyFits, MethodFits, OptionalBod
 ghost use Rattle.jimple_tree.specs.declared.tree.Catch.{Catch};
 ghost use Rattle.jimple_tree.specs.declared.tree.Stmt.{Stmt};
 ghost use Rattle.app_program.specs.Program.{AreOf, AreNexts};
-ghost use Rattle.app_program.specs.Successors.{Succ, AreNextsOf, IsOwn, Handles, IsCaught, stmt_at};
+ghost use Rattle.jimple_tree.specs.Successors.{Succ};
+ghost use Rattle.app_program.specs.Successors.{AreNextsOf, IsOwn, Handles, IsCaught, stmt_at};
 
 use crate::successors::{Places, own_places};
 use clean_base::{Seq, StmtId};

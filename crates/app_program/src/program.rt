@@ -1,5 +1,5 @@
 // From a class and a list to a program. Calls and the views of statements stand below.
-ghost use Rattle.std.specs.Prelude.{◌≡◌, ◌<◌, ◌≤◌, List, length, IfOk, IfErr, OnOk, ◌++◌, replicate};
+ghost use Rattle.std.specs.Prelude.{◌≡◌, ◌<◌, ◌≤◌, length, IfOk, IfErr, OnOk, ◌++◌, replicate};
 ghost use Rattle.clean_base.specs.Limits.{most_methods, most_stmts};
 ghost use Rattle.jimple_tree.specs.Bodies.{IsWithin, bodied, all_stmts};
 ghost use Rattle.taint_problem.specs.Code.{IsWhole};

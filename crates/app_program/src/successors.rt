@@ -1,15 +1,13 @@
 // Where statements lead in their body (docs/FLOW-RULES.md, "Successors"). Trees of classes stand below; programs above.
-ghost use Rattle.std.specs.Prelude.{◌≡◌, ◌↔◌, ◌⊎◌, ◌<◌, ◌≤◌, ◌+◌, ◌++◌, ◌∷◌, [], ℕ, List, All, Contains, IfOk, IsTrue, OnOk, length, map, slice_index_or, slice_set};
+ghost use Rattle.std.specs.Prelude.{◌≡◌, ◌↔◌, ◌⊎◌, ◌<◌, ◌≤◌, ◌+◌, ◌++◌, ◌∷◌, [], ℕ, List, Contains, IfOk, IsTrue, OnOk, length, map};
 ghost use Rattle.std.specs.List.Sorted.{IsStrictlyIncreasing};
 ghost use Rattle.clean_base.specs.Limits.{most_stmts};
-ghost use Rattle.clean_base.specs.declared.ids.StmtId.{StmtId};
-ghost use Rattle.clean_base.specs.Lists.{At};
 ghost use Rattle.jimple_tree.specs.Labels.{targets_of};
-ghost use Rattle.jimple_tree.specs.WellFormed.{BodyFits};
 ghost use Rattle.jimple_tree.specs.declared.tree.Case.{Case};
 ghost use Rattle.jimple_tree.specs.declared.tree.Catch.{Catch};
 ghost use Rattle.jimple_tree.specs.declared.tree.Stmt.{Stmt};
-ghost use Rattle.app_program.specs.Successors.{GoesOn, Succ, IsOwn, Handles, IsCaught};
+ghost use Rattle.jimple_tree.specs.Successors.{GoesOn, Succ};
+ghost use Rattle.app_program.specs.Successors.{IsOwn, Handles, IsCaught};
 
 use clean_base::{Seq, StmtId};
 use jimple_tree::{Body, Case, Catch, Stmt};

@@ -4,7 +4,7 @@ ghost use Rattle.std.specs.Prelude.{◌≡◌, ◌<◌, ◌≤◌, ◌+◌, ◌�
 ghost use Rattle.clean_base.specs.Lists.{IsDistinct};
 ghost use Rattle.class_table.specs.Concretes.{IsConcreteClass, AreConcretes, AddsTo};
 ghost use Rattle.class_table.specs.Faults.{HasFewNames, HaveNames, IsAcyclic};
-ghost use Rattle.class_table.specs.Hierarchy.{class_names, heading};
+ghost use Rattle.class_table.specs.Hierarchy.{heading};
 ghost use Rattle.class_table.specs.Links.{IsLink};
 
 use crate::modifiers::is_abstract;

@@ -2,9 +2,8 @@
 use crate::Name;
 use thiserror::Error;
 
-/// What is wrong with the input (docs/COMMANDS.md, "Refusals"). `file` is the file's place in the order of
-/// reading, `at` a byte of it, and `line` is counted from 1. No command says `BadLine`, `DoubleComponent`, the faults of
-/// classes, `ComponentMissing`, `LimitFields` or `BadTrace` yet.
+/// What is wrong with the input (docs/COMMANDS.md, "Refusals", which tells what each command says). `file` is the file's
+/// place in the order of reading, `at` a byte of it, and `line` is counted from 1.
 #[derive(Debug, Drop, Error, PartialEq, Eq)]
 pub enum InputFault {
     /// The file has more bytes than its room, which is `at`.

@@ -1,5 +1,5 @@
 // Lists of at most eight fields.
-ghost use Rattle.std.specs.Prelude.{◌≡◌, ℕ, ◌<◌, ◌≤◌, ◌∷◌, [], ◌++◌, length, slice_get, List, Some, ◌==◌};
+ghost use Rattle.std.specs.Prelude.{◌≡◌, ◌<◌, ◌≤◌, ◌∷◌, [], ◌++◌, length, slice_get, List, Some, ◌==◌};
 
 use crate::{FieldId, Plain};
 use std::marker::Model;

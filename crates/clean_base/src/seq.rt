@@ -86,6 +86,18 @@ impl<T: Ord> Ord for Seq<T> {
     }
 }
 
+impl<T: Hash> Hash for Seq<T> {
+    ghost use Rattle.std.specs.Hash.{slice, items_Alike};
+
+    ghost hash_input = { λ s. slice T.hash_input s };
+
+    ghost respects_eq = { (items_Alike (record { fed = T.respects_eq })).fed };
+
+    fn hash<H: Hasher>(&self, state: &mut H) {
+        self.as_slice().hash(state);
+    }
+}
+
 /// A name, as its bytes.
 #[derive(Debug, Drop)]
 pub struct Name {

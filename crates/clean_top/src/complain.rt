@@ -1,7 +1,7 @@
 // The line on the standard error that says why a call refused.
 ghost use Rattle.std.specs.Prelude.{◌≡◌, ◌-◌, ◌++◌, OnOk, IfOk, codes, decimal};
 ghost use Rattle.clean_top.specs.Answer.{Complains, OrMemory, Takes};
-ghost use Rattle.clean_top.specs.Status.{class_fault_text, fault_text, file_word, form_word, place_text, line_text, error_text};
+ghost use Rattle.clean_top.specs.Status.{class_fault_text, fault_text, file_word, form_word, place_text, line_text};
 ghost use Rattle.clean_top.specs.Words.{in_order};
 
 use crate::status::Status;

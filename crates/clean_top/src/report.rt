@@ -1,5 +1,5 @@
 // The report: a line for each leak, and the numbers of path edges and contexts.
-ghost use Rattle.std.specs.Prelude.{◌≡◌, ◌≤◌, ◌++◌, OnOk, IfOk, IfSome, IfNone, List, codes, flat_map, length, map};
+ghost use Rattle.std.specs.Prelude.{◌≡◌, ◌≤◌, ◌++◌, OnOk, IfOk, IfSome, IfNone, flat_map, length, map};
 ghost use Rattle.ifds_model.specs.State.{At};
 ghost use Rattle.jimple_tree.specs.Bodies.{bodied};
 ghost use Rattle.clean_top.specs.Report.{method_text_at, method_of, place_of, stmt_text, locals_of, local_name, line_of, line_text, report_text, Shows, Reports};

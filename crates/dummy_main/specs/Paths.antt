@@ -1,31 +1,15 @@
 -- The paths of a body, and what they show (docs/LIFECYCLE.md, "What a body means").
-use Rattle.std.specs.Prelude.{◌≡◌, ◌<◌, ◌≤◌, ◌+◌, ℕ, List, [], ◌∷◌, ◌++◌, length, Contains, Option, Some, None, slice_get}
+use Rattle.std.specs.Prelude.{◌≡◌, ℕ, List, [], ◌∷◌, ◌++◌, Option, Some, None, slice_get}
 use Rattle.clean_base.specs.Lists.{At}
-use Rattle.jimple_tree.specs.Labels.{targets_of}
+use Rattle.jimple_tree.specs.Successors.{Succ}
 use Rattle.jimple_tree.specs.declared.tree.Body.{Body}
-use Rattle.jimple_tree.specs.declared.tree.Catch.{Catch}
 use Rattle.jimple_tree.specs.declared.tree.Imm.{Imm}
 use Rattle.jimple_tree.specs.declared.tree.Place.{Place}
 use Rattle.jimple_tree.specs.declared.tree.Rhs.{Rhs}
 use Rattle.jimple_tree.specs.declared.tree.Rhs.TheVariants as rhs
 use Rattle.jimple_tree.specs.declared.tree.Stmt.{Stmt}
-use Rattle.jimple_tree.specs.declared.tree.Stmt.TheVariants.{Assign, Call, Goto, Switch, Return, Throw}
+use Rattle.jimple_tree.specs.declared.tree.Stmt.TheVariants.{Assign, Call, Return}
 use Rattle.dummy_main.specs.Lifecycle.{Letter, Makes, Calls}
-
--- the statement may be left for the next one
-abbrev pub GoesOn : Stmt → Type 0
-GoesOn (Goto target) = ⊥
-GoesOn (Switch table key cases default) = ⊥
-GoesOn (Return value) = ⊥
-GoesOn (Throw value) = ⊥
-GoesOn _ = Unit {0}
-
--- the statement at the place t is a successor of the one at s: it is the next one, or one that the statement names, or
--- the handler of a catch clause whose range covers the statement
-pub data Succ (b : Body) (s t : ℕ) : Type 0 where
-  falls : (stmt : Stmt) → At b.stmts s stmt → GoesOn stmt → t ≡ s + 1 → t < length b.stmts → Succ b s t
-  jumps : (stmt : Stmt) → At b.stmts s stmt → Contains (targets_of stmt) t → Succ b s t
-  caught : (c : Catch) → Contains b.catches c → c.from ≤ s → s < c.to → t ≡ c.with → Succ b s t
 
 -- the places lead from s on, each a successor of the one before, to a return
 abbrev pub IsPath : Body → ℕ → List ℕ → Type 0

@@ -1,5 +1,5 @@
 // What a line of a component list says. Names and components stand below; `list` above.
-ghost use Rattle.std.specs.Prelude.{◌≡◌, ◌≤◌, ◌<◌, ◌↔◌, length, take, drop, IfOk, IfSome, IfNone, IsTrue, not, true};
+ghost use Rattle.std.specs.Prelude.{◌≡◌, ◌≤◌, ◌<◌, ◌↔◌, length, IfOk, IfSome, IfNone, IsTrue};
 ghost use Rattle.std.specs.List.{prefix_len, suffix_len, list_all};
 ghost use Rattle.dummy_main.specs.declared.component.Component.{Component};
 ghost use Rattle.dummy_main.specs.declared.component.ComponentKind.{ComponentKind};

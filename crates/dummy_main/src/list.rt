@@ -1,10 +1,10 @@
 // Lists of components, read line by line. `entry` stands below.
-ghost use Rattle.std.specs.Prelude.{◌≡◌, ◌<◌, ◌≤◌, ◌++◌, [], ◌∷◌, ℕ, List, length, map, Contains, IfOk, IfErr, OnOk, IsTrue, MatchBool};
+ghost use Rattle.std.specs.Prelude.{◌≡◌, ◌<◌, ◌≤◌, ◌++◌, [], ◌∷◌, ℕ, List, length, map, Contains, IfOk, IfErr, OnOk, MatchBool};
 ghost use Rattle.dummy_main.specs.declared.list.Refusal.TheVariants.{Memory};
 ghost use Rattle.clean_base.specs.declared.fault.InputFault.{InputFault};
 ghost use Rattle.dummy_main.specs.declared.component.Component.{Component};
 ghost use Rattle.dummy_main.specs.Listing.{most_components, trimmed, Gives, name_of, IsList, IsFirstFault, Refused, list_lines};
-ghost use Rattle.dummy_main.specs.ReadingList.{Says, IsIndexed, MayFollow, Adds, RefusesLine, stop_of};
+ghost use Rattle.dummy_main.specs.ReadingList.{IsIndexed, MayFollow, Adds, RefusesLine, stop_of};
 
 use crate::Component;
 use crate::component::MOST_COMPONENTS;

@@ -1,5 +1,5 @@
 // Small parts of the generated class: names, types, arguments. Trees of classes stand below; calls and blocks above.
-ghost use Rattle.std.specs.Prelude.{◌≡◌, IfOk, List, [], ◌∷◌, map, codes};
+ghost use Rattle.std.specs.Prelude.{◌≡◌, IfOk, [], ◌∷◌, map};
 ghost use Rattle.dummy_main.specs.Lifecycle.{type_of};
 ghost use Rattle.dummy_main.specs.Layout.{argument, literal};
 

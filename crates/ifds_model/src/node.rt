@@ -101,7 +101,6 @@ impl<F: Plain> Plain for Frame<F> {
 }
 
 impl<F: Plain> Plain for Item<F> {
-    ghost use Rattle.std.specs.Prelude.{true};
     ghost use Rattle.std.proofs.Common.{rules};
     ghost use Rattle.ifds_model.specs.Exact.{same_context, same_edge, same_join, same_item};
 

@@ -1,4 +1,3 @@
-mod Exact
 mod Segments
 mod Numbers
 mod Lines

@@ -7,3 +7,5 @@ pub mod Canonical
 pub mod Bodies
 pub mod Printed
 pub mod Signatures
+pub mod Successors
+pub mod Exact

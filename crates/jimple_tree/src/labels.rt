@@ -1,6 +1,6 @@
 // The numbers of a body's labels: one table for each body, in which jumps look theirs up.
 // Statements and bodies stand above, only the tree below.
-ghost use Rattle.std.specs.Prelude.{◌≡◌, ◌+◌, ◌++◌, ◌<◌, ◌≤◌, ℕ, All, IfOk, OnOk, length, map, replicate, sum, take, slice_index, slice_set, codes};
+ghost use Rattle.std.specs.Prelude.{◌≡◌, ◌+◌, ◌++◌, ◌<◌, ◌≤◌, ℕ, All, IfOk, OnOk, length, map, replicate, sum, take, slice_index, slice_set};
 ghost use Rattle.std.specs.List.{flat_map};
 ghost use Rattle.jimple_tree.specs.Labels.{IsNumbered, catch_places, label_text, marked, targets_of};
 ghost use Rattle.jimple_tree.specs.WellFormed.{BodyFits};

@@ -1,6 +1,7 @@
 // Jimple classes as trees. `clean_base` stands below; the readers of texts and all that works on classes above.
 #![tactic(auto)]
 
+mod copy;
 mod labels;
 mod names;
 mod operand;

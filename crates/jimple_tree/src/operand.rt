@@ -1,6 +1,6 @@
 // The texts of types, signatures, operands and calls.
 // Statements stand above, names below.
-ghost use Rattle.std.specs.Prelude.{◌≡◌, ◌++◌, ◌<◌, length, codes, OnOk, All};
+ghost use Rattle.std.specs.Prelude.{◌≡◌, ◌++◌, ◌<◌, codes, OnOk, All};
 ghost use Rattle.std.specs.List.{flat_map};
 ghost use Rattle.jimple_tree.specs.Operands.{
   args_text,

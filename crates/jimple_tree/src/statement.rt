@@ -1,8 +1,8 @@
 // The texts of statements.
 // Bodies stand above, operands and labels below.
-ghost use Rattle.std.specs.Prelude.{◌≡◌, ◌++◌, ◌<◌, ◌≤◌, All, OnOk, codes, decimal, length};
+ghost use Rattle.std.specs.Prelude.{◌≡◌, ◌++◌, ◌<◌, ◌≤◌, All, OnOk, codes, decimal};
 ghost use Rattle.std.specs.List.{flat_map};
-ghost use Rattle.jimple_tree.specs.Labels.{IsNumbered, label_number, label_text};
+ghost use Rattle.jimple_tree.specs.Labels.{IsNumbered, label_number};
 ghost use Rattle.jimple_tree.specs.Operands.{imm_text, local_text, type_text};
 ghost use Rattle.jimple_tree.specs.Statements.{
   case_head,
@@ -20,7 +20,7 @@ ghost use Rattle.jimple_tree.specs.Statements.{
   stmt_text,
   switch_word,
 };
-ghost use Rattle.jimple_tree.specs.WellFormed.{GivenFits, ImmFits, LocalFits, PlaceFits, RhsFits, StmtFits, TargetFits};
+ghost use Rattle.jimple_tree.specs.WellFormed.{ImmFits, LocalFits, PlaceFits, RhsFits, StmtFits, TargetFits};
 
 use crate::labels::write_label;
 use crate::names::write_name;

@@ -16,7 +16,7 @@ pub struct Class {
 }
 
 /// A type: a class or a primitive, and how many `[]` stand behind it.
-#[derive(Debug, Drop, PartialEq, Eq)]
+#[derive(Debug, Drop, PartialEq, Eq, Hash)]
 pub struct JType {
     pub base: Name,
     pub dims: u64,
@@ -207,7 +207,7 @@ pub enum BinOp {
 }
 
 /// A method signature, `<C: T m(P1,P2)>`.
-#[derive(Debug, Drop, PartialEq, Eq)]
+#[derive(Debug, Drop, PartialEq, Eq, Hash)]
 pub struct Sig {
     pub class: Name,
     pub result: JType,
@@ -238,7 +238,7 @@ impl Method {
 }
 
 /// A field signature, `<C: T f>`.
-#[derive(Debug, Drop, PartialEq, Eq)]
+#[derive(Debug, Drop, PartialEq, Eq, Hash)]
 pub struct FieldSig {
     pub class: Name,
     pub ty: JType,

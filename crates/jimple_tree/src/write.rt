@@ -1,6 +1,6 @@
 // The canonical text of a class (docs/FORMATS.md, "Tree and canonical text"): headings, members, and the lines of bodies.
 // Statements, operands and names stand below; the crate's callers above.
-ghost use Rattle.std.specs.Prelude.{◌≡◌, ◌++◌, ◌+◌, ◌≤◌, ◌<◌, All, OnOk, codes, length, if◌then◌else◌, nat_lt, []};
+ghost use Rattle.std.specs.Prelude.{◌≡◌, ◌++◌, ◌+◌, ◌≤◌, ◌<◌, All, OnOk, codes, if◌then◌else◌, nat_lt, []};
 ghost use Rattle.std.specs.List.{flat_map};
 ghost use Rattle.jimple_tree.specs.Canonical.{
   canonical,
@@ -15,7 +15,7 @@ ghost use Rattle.jimple_tree.specs.Canonical.{
   names_clause,
 };
 ghost use Rattle.jimple_tree.specs.Labels.{IsNumbered, label_text};
-ghost use Rattle.jimple_tree.specs.Names.{joined, name_text};
+ghost use Rattle.jimple_tree.specs.Names.{name_text};
 ghost use Rattle.jimple_tree.specs.Operands.{type_text};
 ghost use Rattle.jimple_tree.specs.Statements.{body_text, catch_head, catch_line, lines_from, local_line, stmt_line};
 ghost use Rattle.jimple_tree.specs.WellFormed.{BodyFits, CatchFits, IsWellFormed, MethodFits, OptionalBodyFits, StmtFits};

@@ -1,13 +1,13 @@
 -- The graph whose steps lead the other way.
-use Rattle.std.proofs.Common.{◌≡◌, ◌↔◌, ◌⊎◌, ℕ, ◌+◌, ◌<◌, List, [], ◌∷◌, ◌++◌, length, get_or, set, take, sym, ap, subst, ◌∙◌, refl, arith, inl, inr}
-use Rattle.std.specs.Prelude.{Contains, replicate}
+use Rattle.std.proofs.Common.{◌≡◌, ◌↔◌, ◌⊎◌, ℕ, ◌+◌, ◌<◌, List, [], ◌∷◌, ◌++◌, length, get_or, set, take, sym, ap, subst, ◌∙◌, arith, inl, inr}
+use Rattle.std.specs.Prelude.{Contains}
 use Rattle.std.proofs.lemmas.Bool.{cases_eq}
 use Rattle.std.proofs.lemmas.List.{length-set, get_or_default, get_or-set_same, get_or-set_other, take_more}
-use Rattle.std.proofs.lemmas.List.Elements.{Contains-get_or, Contains-append_left, Contains-append_right, Contains-append_cases, Contains-push, Contains-push_cases}
+use Rattle.std.proofs.lemmas.List.Elements.{Contains-get_or, Contains-append_left, Contains-push, Contains-push_cases}
 use Rattle.reach_rows.specs.Backward.{IsBackward, AddsTo}
 use Rattle.reach_rows.specs.Graphs.{row, Steps, IsGraph}
 use Rattle.reach_rows.specs.Reaches.{Reaches, here, on}
-use Rattle.reach_rows.proofs.Paths.{reaches_more, steps_from, steps_to}
+use Rattle.reach_rows.proofs.Paths.{reaches_more, steps_from}
 
 module _ (rows backs : List (List ℕ)) (back : IsBackward rows backs) where
   pub reach_back : (a b : ℕ) → Reaches (Steps backs) a b → Reaches (Steps rows) b a

@@ -1,17 +1,15 @@
 -- The nodes of a finished search, taken from the last one to the first.
-use Rattle.std.proofs.Common.{◌≡◌, ◌≢◌, ◌↔◌, ◌⊎◌, ℕ, ◌+◌, ◌-◌, ◌<◌, ◌≤◌, Bool, true, false, IsTrue, List, [], length, get_or, set, sym, ap, subst, ◌∙◌, refl, arith, inl, inr}
-use Rattle.std.specs.Prelude.{Contains}
-use Rattle.std.proofs.lemmas.Bool.{cases_eq, cases_lt}
-use Rattle.std.proofs.lemmas.List.{length-set, get_or_default}
+use Rattle.std.proofs.Common.{◌≡◌, ◌≢◌, ◌↔◌, ◌⊎◌, ℕ, ◌+◌, ◌-◌, ◌<◌, ◌≤◌, Bool, true, false, IsTrue, List, [], length, get_or, set, sym, subst, ◌∙◌, refl, arith, inl, inr}
+use Rattle.std.proofs.lemmas.Bool.{cases_eq}
 use Rattle.clean_base.specs.Lists.{At}
 use Rattle.reach_rows.specs.Backward.{IsBackward}
 use Rattle.reach_rows.specs.Cycles.{AreTold, AreToldFrom, IsSpread, IsTaken, IsWhole}
-use Rattle.reach_rows.specs.Graphs.{row, Steps, IsGraph, IsOrder, IsOnCycle, IsFirstOnCycle}
-use Rattle.reach_rows.specs.Reaches.{Reaches, here, on, Follows}
+use Rattle.reach_rows.specs.Graphs.{Steps, IsGraph, IsOrder, IsOnCycle, IsFirstOnCycle}
+use Rattle.reach_rows.specs.Reaches.{here, on}
 use Rattle.reach_rows.specs.Search.{IsFinish}
 use Rattle.reach_rows.proofs.Backwards.{reach_back, reach_forth}
 use Rattle.reach_rows.proofs.Floods.{reached_seen}
-use Rattle.reach_rows.proofs.Paths.{steps_from, steps_to}
+use Rattle.reach_rows.proofs.Paths.{steps_from}
 use Rattle.reach_rows.proofs.Places.{at_one, at_set_same, at_of_set}
 
 module _ (rows backs : List (List ℕ)) (graph : IsGraph rows) (back : IsBackward rows backs) (order : List ℕ) (finish : IsFinish rows order) (passed x : ℕ) (within : passed < length order) (is : x ≡ get_or order (length order - 1 - passed) x) where

@@ -4,7 +4,6 @@
 // once; a node that is taken is on a cycle exactly where one of its row is seen.
 ghost use Rattle.std.specs.Prelude.{◌≡◌, ◌<◌, ◌^◌, ◌↔◌, ◌∷◌, ℕ, [], length, replicate, true, false, All, Contains, IsTrue, IfOk, OnOk, MatchOption};
 ghost use Rattle.clean_base.specs.Lists.{At};
-ghost use Rattle.reach_rows.specs.Backward.{IsBackward};
 ghost use Rattle.reach_rows.specs.Graphs.{IsGraph, IsOnCycle, IsFirstOnCycle};
 ghost use Rattle.reach_rows.specs.Search.{IsFinish};
 ghost use Rattle.reach_rows.specs.Cycles.{AreTold, IsAdded, IsSpread, IsWhole};

@@ -1,7 +1,7 @@
 -- A commit from what its calls answer: the worker's item has its moves taken in, and what is so of every state stays.
 use Rattle.std.specs.Prelude.{◌≡◌, ◌≤◌, ℕ, ◌+◌, ◌-◌, ◌^◌, min, List, length, map, slice_set, Option, Some, None, IfSome, IfNone}
 use Rattle.std.specs.List.{sum_by}
-use Rattle.std.proofs.Common.{arith, sym, ◌∙◌, ap, subst}
+use Rattle.std.proofs.Common.{sym, ◌∙◌, ap, subst}
 use Rattle.clean_base.specs.declared.ids.MethodId.{MethodId}
 use Rattle.ifds_model.specs.declared.node.Context.{Context}
 use Rattle.ifds_model.specs.declared.node.Item.{Item}

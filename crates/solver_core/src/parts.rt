@@ -1,6 +1,6 @@
 // The parts of a state by numbers: how they begin, and what their numbers stand for. How moves are taken in stands
 // beside; the state stands above.
-ghost use Rattle.std.specs.Prelude.{◌≡◌, ◌≤◌, ◌∷◌, [], length, replicate, IfOk, Some, None};
+ghost use Rattle.std.specs.Prelude.{◌≡◌, ◌≤◌, ◌∷◌, [], length, replicate, IfOk, None};
 ghost use Rattle.std.specs.VecDeque.{deque_len, deque_capacity};
 ghost use Rattle.ifds_model.specs.declared.node.Context.{Context};
 ghost use Rattle.solver_core.specs.Numbers.{item_of, HasNumbersBelow};

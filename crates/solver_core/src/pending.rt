@@ -1,6 +1,6 @@
 // What is still to be done, by the numbers of contexts: the queue of works, and the workers' hands. The state's parts
 // stand above.
-ghost use Rattle.std.specs.Prelude.{◌≡◌, ◌≤◌, ◌<◌, ◌+◌, ◌^◌, ◌++◌, ◌∷◌, [], List, length, slice_set, IfSome, IfNone, Some, None, vec_len};
+ghost use Rattle.std.specs.Prelude.{◌≡◌, ◌≤◌, ◌<◌, ◌+◌, ◌^◌, ◌++◌, ◌∷◌, [], List, length, slice_set, IfSome, IfNone, Some, None};
 ghost use Rattle.std.specs.VecDeque.{deque_len, deque_capacity};
 ghost use Rattle.ifds_model.specs.declared.node.Context.{Context};
 ghost use Rattle.ifds_model.specs.Events.{commits_of};

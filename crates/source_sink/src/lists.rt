@@ -1,6 +1,5 @@
 // Lists of sources and sinks: read line by line, and asked by signature. `cursor` and `line` stand below.
-ghost use Rattle.std.specs.Prelude.{◌≡◌, ◌↔◌, ◌==◌, List, map, length, drop, IfOk, IfErr, IsTrue, MatchResult, true};
-ghost use Rattle.std.specs.List.{list_all};
+ghost use Rattle.std.specs.Prelude.{◌≡◌, ◌↔◌, ◌==◌, List, map, IfOk, IfErr, IsTrue, MatchResult, true};
 ghost use Rattle.jimple_tree.specs.declared.tree.Sig.{Sig};
 ghost use Rattle.source_sink.specs.declared.line.Line.{Line};
 ghost use Rattle.name_index.specs.Index.{IsIndex};

@@ -1,6 +1,6 @@
 // What a statement does to one fact (docs/FLOW-RULES.md). Facts and statements stand below, the moves that this makes
 // above.
-ghost use Rattle.std.specs.Prelude.{◌≡◌, ◌⊎◌, ◌↔◌, IsTrue, true, Contains, Some};
+ghost use Rattle.std.specs.Prelude.{◌≡◌, ◌⊎◌, ◌↔◌, IsTrue, Contains, Some};
 ghost use Rattle.taint_problem.specs.Flow.{IsOf, held_by, HoldsOperand, HoldsTaint, GivesSource, GivesTaint, Overwrites, Writes, Passes, Exits, Returns, Leaks};
 ghost use Rattle.taint_problem.specs.Moves.{Gives, Keeps};
 ghost use Rattle.taint_problem.specs.Only.{IsOnly};

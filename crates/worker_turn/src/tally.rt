@@ -1,5 +1,5 @@
 // A value that is a number alone: an example of what a turn may hold, and of a round.
-ghost use Rattle.std.specs.Prelude.{◌≡◌, ◌≤◌, ◌+◌, ◌^◌, ℕ, false, MatchBool};
+ghost use Rattle.std.specs.Prelude.{◌≡◌, ◌≤◌, ◌+◌, ◌^◌, false, MatchBool};
 
 use crate::pass::Pass;
 use crate::turn::Turn;

@@ -1,5 +1,5 @@
 use Rattle.std.proofs.Common.{sym, ◌∙◌}
-use Rattle.jimple_tree.proofs.Exact.{params_decide, not_false}
+use Rattle.jimple_tree.specs.Exact.{params_decide, not_false}
 use Rattle.jimple_tree.proofs.tree.Method.is_named.Goals as goal
 
 pub returns-then-eq : goal.returns-then-eq

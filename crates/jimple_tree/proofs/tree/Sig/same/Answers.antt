@@ -1,5 +1,5 @@
 use Rattle.std.proofs.Common.{◌≡◌, ◌∙◌, sym}
-use Rattle.jimple_tree.proofs.Exact.{sigs_decide, same_sig}
+use Rattle.jimple_tree.specs.Exact.{sigs_decide, same_sig}
 use Rattle.jimple_tree.proofs.tree.Sig.same.Goals as goal
 
 pub returns : goal.returns

@@ -1,18 +1,15 @@
-use Rattle.std.proofs.Common.{arith, refl, ap, subst, sym, ◌≡◌, ◌∙◌, ◌+◌, length, map, slice_set, Some, None, Contains}
+use Rattle.std.proofs.Common.{arith, refl, ap, subst, sym, ◌≡◌, ◌∙◌, ◌+◌, length, slice_set, Some, None, Contains}
 use Rattle.std.specs.List.{sum_by}
 use Rattle.std.proofs.lemmas.Result.{err_from_is_err_and}
 use Rattle.ifds_model.specs.Outcome.{AreMovesOf}
-use Rattle.ifds_model.specs.Events.{commits_of}
-use Rattle.ifds_model.specs.State.{At, context_of}
-use Rattle.solver_core.specs.Gathered.{KeepsWithin}
+use Rattle.ifds_model.specs.State.{At}
 use Rattle.solver_core.specs.Hands.{in_hand}
-use Rattle.solver_core.specs.Numbers.{context_at}
-use Rattle.solver_core.specs.Room.{edges_of, works_of}
+use Rattle.solver_core.specs.Room.{works_of}
 use Rattle.solver_core.specs.Seen.{IsRight}
 use Rattle.solver_core.specs.declared.parts.Parts.{Parts}
 use Rattle.solver_core.proofs.Counted.{commits_within}
 use Rattle.solver_core.proofs.Landing.{here, event, right_after}
-use Rattle.solver_core.proofs.Landed.{flown_item, not_both, place_context, place_within, emptied_hand, emptied_fit, lag_is, same_view, same_fit, stopped_as, committed, commit_right}
+use Rattle.solver_core.proofs.Landed.{not_both, place_within, emptied_hand, emptied_fit, same_view, same_fit, stopped_as}
 use Rattle.solver_core.proofs.Prepared.{starts_kept}
 use Rattle.solver_core.proofs.RoomLeft.{room_as}
 use Rattle.solver_core.proofs.state.State.commit.Goals as goal

@@ -1,8 +1,9 @@
--- `==` on types and signatures tells apart whatever differs.
+-- `==` on types and signatures tells apart whatever differs: so a table by signature is one by value.
 use Rattle.std.proofs.Common.{◌≡◌, ◌∙◌, sym, Bool, true, false, not, nat_eq, List, refl, subst}
 use Rattle.std.proofs.lemmas.Bool.{eq-eqb, eqb-true}
 use lib.Pointwise.{pointwise, bytes_decides, pointwise_decides}
 use mathlib.Core.Bool.{◌&&◌}
+use Rattle.jimple_tree.specs.declared.tree.FieldSig.{FieldSig}
 use Rattle.jimple_tree.specs.declared.tree.JType.{JType}
 use Rattle.jimple_tree.specs.declared.tree.Sig.{Sig}
 
@@ -51,6 +52,24 @@ sig_self a =
 
 pub sigs_decide : (a b : Sig) → (same_sig a b ≡ true → a ≡ b) × (a ≡ b → same_sig a b ≡ true)
 sigs_decide a b = (sig_yes a b, λ e. subst (λ c. same_sig a c ≡ true) e (sig_self a))
+
+abbrev pub same_field_sig : FieldSig → FieldSig → Bool
+same_field_sig a b = pointwise nat_eq a.class b.class && (same_type a.ty b.ty && pointwise nat_eq a.name b.name)
+
+field_sig_yes : (a b : FieldSig) → same_field_sig a b ≡ true → a ≡ b
+field_sig_yes a b h =
+    let p = parts (pointwise nat_eq a.class b.class) _ h in
+    let q = parts (same_type a.ty b.ty) _ p.1 in
+    let class = (bytes_decides a.class b.class).0 p.0 in
+    let type = type_yes a.ty b.ty q.0 in
+    let name = (bytes_decides a.name b.name).0 q.1 in
+    λ i. record { class = class i; ty = type i; name = name i }
+
+field_sig_self : (a : FieldSig) → same_field_sig a a ≡ true
+field_sig_self a = joined _ _ ((bytes_decides a.class a.class).1 refl) (joined _ _ (type_self a.ty) ((bytes_decides a.name a.name).1 refl))
+
+pub field_sigs_decide : (a b : FieldSig) → (same_field_sig a b ≡ true → a ≡ b) × (a ≡ b → same_field_sig a b ≡ true)
+field_sigs_decide a b = (field_sig_yes a b, λ e. subst (λ c. same_field_sig a c ≡ true) e (field_sig_self a))
 
 -- where all but the parameters are the same, these decide
 pub params_decide : (a b : Sig) (r : Bool) → pointwise nat_eq a.class b.class ≡ true → pointwise nat_eq a.name b.name ≡ true → same_type a.result b.result ≡ true → r ≡ pointwise same_type a.params b.params
