@@ -5,3 +5,4 @@ pub mod Only
 pub mod Ordered
 pub mod Resolved
 pub mod Saying
+pub mod Knowing

@@ -1,5 +1,5 @@
 -- What calls are: what the lists say of them, and the methods that they may come to (docs/FLOW-RULES.md, "Calls").
-use Rattle.std.specs.Prelude.{ℕ, Bool, List, Option, Some, None}
+use Rattle.std.specs.Prelude.{ℕ, Bool, List, Option, Some, None, IsTrue}
 use Rattle.clean_base.specs.declared.ids.MethodId.{MethodId}
 use Rattle.jimple_tree.specs.declared.tree.Class.{Class}
 use Rattle.jimple_tree.specs.declared.tree.Invoke.{Invoke}
@@ -11,6 +11,7 @@ use Rattle.jimple_tree.specs.declared.tree.Sig.{Sig}
 use Rattle.jimple_tree.specs.declared.tree.Stmt.{Stmt}
 use Rattle.jimple_tree.specs.declared.tree.Stmt.TheVariants as stmts
 use Rattle.source_sink.specs.Lists.{Says}
+use Rattle.source_sink.specs.declared.line.Kind.{Kind}
 use Rattle.source_sink.specs.declared.line.Line.{Line}
 use Rattle.class_table.specs.Concrete.{IsConcrete}
 use Rattle.class_table.specs.Hierarchy.{Subtype}
@@ -38,6 +39,11 @@ IsTarget cs call n = IsTargetOf cs call.kind call.sig n
 pub record IsPlain (cs : List Class) (lines : List Line) (sig : Sig) : Type 0 where
   pub no_source : IsKind cs lines sig (λ (l : Line). l.source) → ⊥
   pub no_sink : IsKind cs lines sig (λ (l : Line). l.sink) → ⊥
+
+-- what is said is neither
+pub record IsNeither (said : Kind) : Type 0 where
+  pub no_source : IsTrue said.source → ⊥
+  pub no_sink : IsTrue said.sink → ⊥
 
 -- an open call may come to this method
 pub record IsOpenTo (cs : List Class) (lines : List Line) (call : Invoke) (n : MethodId) : Type 0 where

@@ -12,6 +12,10 @@ use Rattle.call_graph.specs.Calls.{IsOpenTo, call_in}
 use Rattle.call_graph.specs.Graphs.{IsCall, Calls}
 use Rattle.call_graph.specs.declared.edges.CallEdge.{CallEdge}
 
+-- all methods that an open call may come to
+abbrev pub AreOpenTargets : List Class → List Line → Invoke → List MethodId → Type 0
+AreOpenTargets cs lines call targets = (n : MethodId) → Contains targets n ↔ IsOpenTo cs lines call n
+
 abbrev pub edge_to : MethodId → ℕ → MethodId → CallEdge
 edge_to caller place target = record { caller = caller; place = place; target = target }
 

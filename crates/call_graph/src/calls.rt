@@ -6,7 +6,7 @@ ghost use Rattle.clean_base.specs.declared.ids.MethodId.{MethodId};
 ghost use Rattle.source_sink.specs.declared.line.Line.{Line};
 ghost use Rattle.class_table.specs.Hierarchy.{class_names};
 ghost use Rattle.call_graph.specs.ByNumber.{IsReceiver, ResolvesAt, ResolvesIn, SaysIn};
-ghost use Rattle.call_graph.specs.Calls.{IsKind, IsOpenTo, IsTarget};
+ghost use Rattle.call_graph.specs.Calls.{IsKind, IsNeither, IsTarget, IsTargetOf};
 
 use class_table::ClassTable;
 use clean_base::{ClassId, MethodId};
@@ -94,6 +94,26 @@ pub fn in_order(methods: Vec<MethodId>) -> Vec<MethodId>
     methods
 }
 
+// The methods with a body that a call of this kind and signature may come to, in the order of their numbers.
+fn targets_of(
+    alloc: Global,
+    table: &ClassTable,
+    kind: InvokeKind,
+    sig: &Sig,
+) -> Result<Vec<MethodId>, AllocError>
+    ensures ascending { IfOk result (λ v. IsStrictlyIncreasing (map (λ (m : MethodId). m.0) v.items)) }
+    ensures exact { IfOk result (λ v. (n : MethodId) → Contains v.items n ↔ IsTargetOf table.now kind sig.now n) }
+{
+    match table.find(&sig.class) {
+        Some(class) => {
+            let classes = receivers(table, &class, kind);
+            let found = resolved_in(alloc, table, classes, sig)?;
+            Ok(in_order(found))
+        }
+        None => Ok(Vec::new(alloc)),
+    }
+}
+
 /// The methods with a body that a call may come to, in the order of their numbers.
 pub fn targets(
     alloc: Global,
@@ -103,28 +123,22 @@ pub fn targets(
     ensures ascending { IfOk result (λ v. IsStrictlyIncreasing (map (λ (m : MethodId). m.0) v.items)) }
     ensures exact { IfOk result (λ v. (n : MethodId) → Contains v.items n ↔ IsTarget table.now call.now n) }
 {
-    match table.find(&call.sig.class) {
-        Some(class) => {
-            let classes = receivers(table, &class, call.kind);
-            let found = resolved_in(alloc, table, classes, &call.sig)?;
-            Ok(in_order(found))
-        }
-        None => Ok(Vec::new(alloc)),
-    }
+    targets_of(alloc, table, call.kind, &call.sig)
 }
 
-// The methods that a call may come to where it is open: none where the lists say source or sink of it.
+// The methods that a call may come to where it is open: none where the lists say source or sink of its signature.
 pub fn open_targets(
     alloc: Global,
     table: &ClassTable,
-    lists: &Lists,
-    call: &Invoke,
+    said: Kind,
+    kind: InvokeKind,
+    sig: &Sig,
 ) -> Result<Vec<MethodId>, AllocError>
-    ensures { IfOk result (λ v. (n : MethodId) → Contains v.items n ↔ IsOpenTo table.now lists.now call.now n) }
+    ensures ascending { IfOk result (λ v. IsStrictlyIncreasing (map (λ (m : MethodId). m.0) v.items)) }
+    ensures exact { IfOk result (λ v. (n : MethodId) → Contains v.items n ↔ (IsTargetOf table.now kind sig.now n × IsNeither said)) }
 {
-    let kind = kind_of(table, lists, &call.sig);
-    if kind.source || kind.sink {
+    if said.source || said.sink {
         return Ok(Vec::new(alloc));
     }
-    targets(alloc, table, call)
+    targets_of(alloc, table, kind, sig)
 }

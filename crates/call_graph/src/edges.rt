@@ -1,16 +1,17 @@
 // The graph of the open calls from a method on. Calls and their targets stand below.
-ghost use Rattle.std.specs.Prelude.{◌≡◌, ◌↔◌, ◌⊎◌, ◌<◌, ◌^◌, ◌++◌, All, Contains, false, length, map, IfNone, IfOk, IfSome, None, OnOk, Some};
+ghost use Rattle.std.specs.Prelude.{◌≡◌, ◌↔◌, ◌⊎◌, ◌<◌, ◌^◌, ◌++◌, List, All, Contains, false, length, map, IfNone, IfOk, IfSome, None, OnOk, Some};
 ghost use Rattle.std.specs.List.Sorted.{IsStrictlySortedBy};
 ghost use Rattle.clean_base.specs.declared.ids.MethodId.{MethodId};
 ghost use Rattle.class_table.specs.Methods.{all_methods};
 ghost use Rattle.reach_rows.specs.Reaches.{Reaches};
 ghost use Rattle.call_graph.specs.Calls.{call_in};
-ghost use Rattle.call_graph.specs.Floods.{IsCallAt, IsCallIn, IsMet, IsMore, IsTargetIn, edge_to};
+ghost use Rattle.call_graph.specs.Floods.{AreOpenTargets, IsCallAt, IsCallIn, IsMet, IsMore, IsTargetIn, edge_to};
 ghost use Rattle.call_graph.specs.Graphs.{Calls, IsCall, IsCallGraph};
 ghost use Rattle.call_graph.specs.declared.edges.CallEdge.{CallEdge};
 ghost use Rattle.call_graph.specs.declared.edges.CallGraph.{CallGraph};
 
-use crate::calls::{in_order, open_targets};
+use crate::calls::in_order;
+use crate::known::KnownCalls;
 use class_table::ClassTable;
 use clean_base::{MethodId, Seq};
 use jimple_tree::{Invoke, Rhs, Stmt};
@@ -32,8 +33,8 @@ pub struct CallGraph {
     pub reached: Seq<MethodId>,
 }
 
-// The call in a statement.
-fn call_of(stmt: &Stmt) -> Option<&Invoke>
+/// The call in a statement.
+pub fn call_of(stmt: &Stmt) -> Option<&Invoke>
     ensures some { IfSome result (λ call. call_in stmt.now ≡ Some call.now) }
     ensures none { IfNone result (call_in stmt.now ≡ None) }
 {
@@ -66,23 +67,38 @@ fn add_edges(
     Ok(())
 }
 
+// Adds the edges of a call at a place.
+fn add_targets(
+    alloc: Global,
+    known: &mut KnownCalls<'_>,
+    calls: &mut Vec<CallEdge>,
+    caller: MethodId,
+    place: u32,
+    call: &Invoke,
+) -> Result<(), AllocError>
+    ensures classes { known.new.classes ≡ known.old.classes }
+    ensures lines { known.new.lines ≡ known.old.lines }
+    ensures added { OnOk result ((targets : List MethodId) × AreOpenTargets known.old.classes known.old.lines call.now targets × (calls.new.items ≡ calls.old.items ++ map (edge_to caller place) targets)) }
+{
+    let number = known.know(alloc, &call.sig)?;
+    add_edges(calls, caller, place, known.at(number).targets(call.kind))
+}
+
 // Adds the open calls of the statement at a place.
 fn add_calls(
     alloc: Global,
-    table: &ClassTable,
-    lists: &Lists,
+    known: &mut KnownCalls<'_>,
     calls: &mut Vec<CallEdge>,
     caller: MethodId,
     place: u32,
     stmt: &Stmt,
 ) -> Result<(), AllocError>
-    ensures { OnOk result ((e : CallEdge) → Contains calls.new.items e ↔ (Contains calls.old.items e ⊎ IsCallAt table.now lists.now caller place stmt.now e)) }
+    ensures classes { known.new.classes ≡ known.old.classes }
+    ensures lines { known.new.lines ≡ known.old.lines }
+    ensures added { OnOk result ((e : CallEdge) → Contains calls.new.items e ↔ (Contains calls.old.items e ⊎ IsCallAt known.old.classes known.old.lines caller place stmt.now e)) }
 {
     match call_of(stmt) {
-        Some(call) => {
-            let targets = open_targets(alloc, table, lists, call)?;
-            add_edges(calls, caller, place, targets.as_slice())
-        }
+        Some(call) => add_targets(alloc, known, calls, caller, place, call),
         None => Ok(()),
     }
 }
@@ -90,17 +106,18 @@ fn add_calls(
 // The open calls of these statements of the caller.
 fn calls_in(
     alloc: Global,
-    table: &ClassTable,
-    lists: &Lists,
+    known: &mut KnownCalls<'_>,
     caller: MethodId,
     stmts: &[Stmt],
 ) -> Result<Vec<CallEdge>, AllocError>
     requires { length stmts.now < 2 ^ 32 }
-    ensures { IfOk result (λ v. (e : CallEdge) → Contains v.items e ↔ IsCallIn table.now lists.now caller stmts.now e) }
+    ensures classes { known.new.classes ≡ known.old.classes }
+    ensures lines { known.new.lines ≡ known.old.lines }
+    ensures exact { IfOk result (λ v. (e : CallEdge) → Contains v.items e ↔ IsCallIn known.old.classes known.old.lines caller stmts.now e) }
 {
     let mut calls = Vec::new(alloc);
     for (place, stmt) in stmts.iter().enumerate() {
-        add_calls(alloc, table, lists, &mut calls, caller, place as u32, stmt)?;
+        add_calls(alloc, known, &mut calls, caller, place as u32, stmt)?;
     }
     Ok(calls)
 }
@@ -109,17 +126,20 @@ fn calls_in(
 fn calls_of(
     alloc: Global,
     table: &ClassTable,
-    lists: &Lists,
+    known: &mut KnownCalls<'_>,
     caller: MethodId,
 ) -> Result<Vec<CallEdge>, AllocError>
-    requires { caller.0 < length (all_methods table.now) }
-    ensures exact { IfOk result (λ v. (e : CallEdge) → Contains v.items e ↔ ((e.caller ≡ caller) × IsCall table.now lists.now e)) }
+    requires number { caller.0 < length (all_methods table.now) }
+    requires table { known.old.classes ≡ table.now }
+    ensures classes { known.new.classes ≡ known.old.classes }
+    ensures lines { known.new.lines ≡ known.old.lines }
+    ensures exact { IfOk result (λ v. (e : CallEdge) → Contains v.items e ↔ ((e.caller ≡ caller) × IsCall table.now known.old.lines e)) }
     ensures within { IfOk result (λ v. All (λ (e : CallEdge). e.target.0 < length (all_methods table.now)) v.items) }
 {
     // The classes have few enough statements for places of 32 bits.
     let _given = table.given();
     match &table.method(caller).body {
-        Some(body) => calls_in(alloc, table, lists, caller, body.stmts.as_slice()),
+        Some(body) => calls_in(alloc, known, caller, body.stmts.as_slice()),
         None => Ok(Vec::new(alloc)),
     }
 }
@@ -178,12 +198,13 @@ fn flood(
     ensures reached { IfOk result (λ g. (m : MethodId) → Contains g.reached m ↔ Reaches (Calls table.now lists.now) root m) }
     ensures calls { IfOk result (λ g. (e : CallEdge) → Contains g.calls e ↔ (Reaches (Calls table.now lists.now) root e.caller × IsCall table.now lists.now e)) }
 {
+    let mut known = KnownCalls::new(alloc, table, lists);
     let mut order = Vec::new(alloc);
     let mut calls = Vec::new(alloc);
     meet(&mut order, met, root)?;
     let mut done = 0;
     while done < order.len() {
-        let own = calls_of(alloc, table, lists, order[done])?;
+        let own = calls_of(alloc, table, &mut known, order[done])?;
         meet_targets(&mut order, met, own.as_slice())?;
         calls.extend_from_slice(own.as_slice())?;
         done += 1;

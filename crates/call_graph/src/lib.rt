@@ -4,6 +4,8 @@
 
 mod calls;
 pub mod edges;
+pub mod known;
 
 pub use calls::{kind_of, targets};
-pub use edges::{CallEdge, CallGraph, graph};
+pub use edges::{CallEdge, CallGraph, call_of, graph};
+pub use known::{KnownCalls, KnownSig};
