@@ -1,0 +1,5 @@
+mod Apart
+mod Keys
+mod Meanings
+mod Places
+mod Upwards

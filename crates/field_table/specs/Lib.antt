@@ -1,0 +1,5 @@
+pub mod Fields
+pub mod Chains
+pub mod Numbers
+pub mod Sigs
+pub mod Kept

@@ -1,0 +1,9 @@
+pub mod Lifted
+pub mod Each
+pub mod Laws
+pub mod Crossing
+pub mod OwnPaths
+pub mod Owning
+pub mod OwnBorder
+pub mod OwnMoves
+pub mod OwnRuns

@@ -1,0 +1,30 @@
+use Rattle.std.proofs.Common.{◌↔◌, ◌<◌, List, Contains, All, length, subst, sym}
+use Rattle.clean_base.specs.declared.ids.StmtId.{StmtId}
+use Rattle.jimple_tree.specs.WellFormed.{IsWellFormed}
+use Rattle.jimple_tree.specs.declared.tree.Class.{Class}
+use Rattle.class_table.specs.Methods.{stmts_in}
+use Rattle.statement_graph.specs.Kept.{AreEnds}
+use Rattle.statement_graph.specs.Statements.{Leads, Together}
+use Rattle.statement_graph.proofs.Ends.{all_ends}
+use Rattle.statement_graph.proofs.Standing.{leads_from, leads_together, together_back}
+use Rattle.statement_graph.proofs.graph.StatementGraph.preds.Goals as goal
+use Rattle.statement_graph.proofs.graph.StatementGraph.preds.Goals.{After-row}
+
+exact : (c : After-row) (q : StmtId) → Contains c.row.result.now q ↔ Leads c.args.self.now q c.args.s
+exact c q =
+    let ends = subst (λ (cs : List Class). AreEnds cs (λ (s p : StmtId). Leads cs p s) c.self.inside.preds) c.self.view_is c.self.invariant.back in
+    subst (λ (qs : List StmtId). Contains qs q ↔ Leads c.args.self.now q c.args.s) (sym c.row.ensures) (ends.exact c.args.s q c.requires)
+
+pub returns-clause-exact : goal.returns-clause-exact
+returns-clause-exact c = exact c
+
+pub returns-clause-within : goal.returns-clause-within
+returns-clause-within c =
+    let cs = c.args.self.now in
+    all_ends (λ (q : StmtId). Leads cs q c.args.s) (λ (q : StmtId). q.0 < length (stmts_in cs)) c.row.result.now (exact c) (λ q leads. leads_from cs q c.args.s leads)
+
+pub returns-clause-together : goal.returns-clause-together
+returns-clause-together c =
+    let cs = c.args.self.now in
+    let formed = subst (All IsWellFormed) c.self.view_is c.self.invariant.well_formed in
+    all_ends (λ (q : StmtId). Leads cs q c.args.s) (Together cs c.args.s) c.row.result.now (exact c) (λ q leads. together_back cs q c.args.s (leads_together cs q c.args.s formed leads))
