@@ -1,9 +1,10 @@
 #!/usr/bin/env python3
 """Times `clean serial` on generated class files whose sizes double.
 
-Three kinds of files: `tokens` is refused at its first token, so that reading ends with the tokens and their kinds;
+Four kinds of files: `tokens` is refused at its first token, so that reading ends with the tokens and their kinds;
 `whole` is read, its names looked up, solved and reported; `edges` has methods that call each other from loops, so that
-most of the time is the solver's. Prints the size, seconds of user time, megabytes a second, path edges a second, and
+most of the time is the solver's; `heap` has methods that pass objects on through stores, loads and calls, so that it also
+searches for aliases. Prints the size, seconds of user time, megabytes a second, path edges a second, and
 the peak of memory as a multiple of the size. Run it from the project's root after `./clean` was built:
 
     bench/serial.py [LARGEST_IN_MB [MOST_METHODS]]
@@ -37,6 +38,21 @@ METHOD = (
 )
 
 
+# Objects go into the next method and come back, through fields of each other.
+HEAP_START = (
+    "    public static void m()\n    {\n        A a, b;\n        int value;\n        a = new A;\n"
+    "        value = staticinvoke <S: int src()>();\n        a.<A: int v> = value;\n"
+    "        b = staticinvoke <A: A m0(A)>(a);\n        value = b.<A: int v>;\n"
+    "        staticinvoke <S: void snk(int)>(value);\n        return;\n    }\n"
+)
+HEAP_METHOD = (
+    "    public static A m{number}(A)\n    {{\n        A a, b, c, d;\n        a := @parameter0: A;\n"
+    "        b = new A;\n        b.<A: A f> = a;\n        c = b;\n        d = c.<A: A f>;\n        {call}\n"
+    "        c.<A: A f> = d;\n        a = b.<A: A f>;\n        return a;\n    }}\n"
+)
+HEAP_FIELDS = "    public A f;\n    public int v;\n"
+
+
 def run(folder, text):
     """The code, the output and the usage of one command over this class file."""
     (folder / "A.jimple").write_bytes(text)
@@ -68,6 +84,18 @@ def methods(count):
     return ("public class A extends java.lang.Object\n{\n" + START + "".join(calls) + "}\n").encode()
 
 
+def heap(count):
+    last = count - 1
+    bodies = (
+        HEAP_METHOD.format(
+            number=number,
+            call="nop;" if number == last else f"d = staticinvoke <A: A m{number + 1}(A)>(d);",
+        )
+        for number in range(count)
+    )
+    return ("public class A extends java.lang.Object\n{\n" + HEAP_FIELDS + HEAP_START + "".join(bodies) + "}\n").encode()
+
+
 def main():
     largest = int(sys.argv[1]) if len(sys.argv) > 1 else 80
     most = int(sys.argv[2]) if len(sys.argv) > 2 else 32_000
@@ -80,11 +108,12 @@ def main():
                 text = head + LINES * (size * 1_000_000 // len(LINES)) + FOOT
                 show(kind, text, run(folder, text))
                 size *= 2
-        count = 1_000
-        while count <= most:
-            text = methods(count)
-            show("edges", text, run(folder, text))
-            count *= 2
+        for kind, make in (("edges", methods), ("heap", heap)):
+            count = 1_000
+            while count <= most:
+                text = make(count)
+                show(kind, text, run(folder, text))
+                count *= 2
 
 
 if __name__ == "__main__":

@@ -1,6 +1,6 @@
 // The facts before a statement, of an inactive taint after it (docs/FLOW-RULES.md, "Before a statement"). Paths stand below,
 // the moves of a program above.
-ghost use Rattle.std.specs.Prelude.{◌≡◌, ◌≢◌, ◌↔◌, ◌≤◌, IsTrue, OnOk, length};
+ghost use Rattle.std.specs.Prelude.{◌↔◌, ◌≤◌, IsTrue, OnOk};
 ghost use Rattle.clean_base.specs.declared.ids.FieldId.{FieldId};
 ghost use Rattle.clean_base.specs.Lists.{AppendsSet};
 ghost use Rattle.access_path.specs.Paths.{IsBelow, strip};

@@ -1,128 +1,140 @@
--- The successors of statements are one list for each.
-use Rattle.std.proofs.Common.{◌≡◌, ◌<◌, ◌+◌, ℕ, suc, Option, Some, None, List, [], ◌∷◌, ◌++◌, Contains, length, map, refl, sym, ap, ◌∙◌, subst, inl, inr, arith}
-use Rattle.std.specs.Prelude.{AllPairs}
-use Rattle.std.proofs.lemmas.List.{length-map, get_or-map}
+-- Classes, a list and an entry have one program.
+use Rattle.std.proofs.Common.{◌≡◌, ◌↔◌, ◌<◌, ℕ, List, [], ◌∷◌, length, map, get_or, AllPairs, Contains, sym, ap, subst, ◌∙◌, arith}
+use Rattle.std.specs.List.Sorted.{IsStrictlyIncreasing}
+use Rattle.std.proofs.lemmas.List.{same_lists, get_or_default, length-map, get_or-map}
 use Rattle.std.proofs.lemmas.List.Kept.{AllPairs-from_increasing}
-use Rattle.clean_base.specs.declared.ids.StmtId.{StmtId}
-use Rattle.ifds_model.specs.Count.{cons_cases}
 use Rattle.clean_base.specs.Lists.{At}
-use Rattle.jimple_tree.specs.Bodies.{stmts_of}
-use Rattle.jimple_tree.specs.declared.tree.Body.{Body}
+use Rattle.clean_base.specs.declared.ids.MethodId.{MethodId}
+use Rattle.clean_base.specs.declared.ids.StmtId.{StmtId}
+use Rattle.jimple_tree.specs.declared.tree.Class.{Class}
+use Rattle.jimple_tree.specs.declared.tree.FieldSig.{FieldSig}
 use Rattle.jimple_tree.specs.declared.tree.Method.{Method}
-use Rattle.app_program.specs.Program.{AreOf, AreNexts}
-use Rattle.app_program.specs.Successors.{AreSuccessors}
+use Rattle.jimple_tree.specs.declared.tree.Sig.{Sig}
+use Rattle.jimple_tree.specs.declared.tree.Stmt.{Stmt}
+use Rattle.source_sink.specs.declared.line.Line.{Line}
+use Rattle.access_path.specs.declared.view.View.{View}
+use Rattle.class_table.specs.Methods.{all_methods, stmts_in, IsDeclared}
+use Rattle.field_table.specs.Numbers.{HaveOneNumber}
+use Rattle.call_graph.proofs.Only.{same_lists as same_items}
+use Rattle.flow_rules.specs.Code.{Code, Follows}
+use Rattle.program_code.specs.App.{App, locals_of}
+use Rattle.app_program.specs.Program.{AreMethods, AreStmts, IsProgram}
+use Rattle.app_program.proofs.Rowed.{item_at}
+use Rattle.app_program.proofs.OneView.{one_seen}
 
--- rising numbers
+-- lists with one item for each place are the same
+one_list : {X : Type 0} (xs ys : List X) → length xs ≡ length ys → ((k : ℕ) (x y : X) → At xs k x → At ys k y → x ≡ y) → xs ≡ ys
+one_list xs ys long one = same_lists xs ys long (λ k d below. one k (get_or xs k d) (get_or ys k d) (there xs k d below) (there ys k d (omega (arith, below, long)))) where
+  there : {X : Type 0} (zs : List X) (k : ℕ) (d : X) → k < length zs → At zs k (get_or zs k d)
+  there zs k d below = (below, get_or_default zs k (get_or zs k d) d below)
 
-abbrev Rise : List ℕ → Type 0
-Rise xs = AllPairs (λ x y. x < y) xs
+-- ids that ascend are in one order
+module _ {X : Type 0} (number : X → ℕ) where
+  rises : (xs : List X) → IsStrictlyIncreasing (map number xs) → AllPairs (λ a b. number a < number b) xs
+  rises xs up i j d less below =
+      let long = length-map xs number in
+      let more = AllPairs-from_increasing (map number xs) up i j 0 less (omega (arith, below, long)) in
+      let first = get_or-map number xs i d 0 (omega (arith, less, below)) in
+      let second = get_or-map number xs j d 0 below in
+      omega (arith, more, first, second)
 
-first_below : (x : ℕ) (xs : List ℕ) (t : ℕ) → Rise (x ∷ xs) → Contains xs t → x < t
-first_below x xs t up (k, below, is) = subst (λ (y : ℕ). x < y) is (up 0 (suc k) t (omega arith) (omega (arith, below)))
+  one_way : (a b : X) → number a < number b → number b < number a → ⊥
+  one_way a b up down = omega (arith, up, down)
 
-rest_rises : (x : ℕ) (xs : List ℕ) → Rise (x ∷ xs) → Rise xs
-rest_rises x xs up i j d less below = up (suc i) (suc j) d (omega (arith, less)) (omega (arith, below))
+  one_row : (xs ys : List X) → IsStrictlyIncreasing (map number xs) → IsStrictlyIncreasing (map number ys) → ((x : X) → Contains xs x ↔ Contains ys x) → ys ≡ xs
+  one_row xs ys up also same = same_items (λ a b. number a < number b) one_way xs ys (rises xs up) (rises ys also) same
 
-here_first : (x : ℕ) (xs : List ℕ) → Contains (x ∷ xs) x
-here_first x xs = (0, (omega arith), refl)
+-- what stands at a place
+item_there : {X : Type 0} (xs : List X) (n : ℕ) → n < length xs → (x : X) × At xs n x
+item_there [] n below = absurd (omega (arith, below))
+item_there (x ∷ xs) n below = (get_or (x ∷ xs) n x, item_at (x ∷ xs) n x below)
 
-one_later : (x : ℕ) (xs : List ℕ) (t : ℕ) → Contains xs t → Contains (x ∷ xs) t
-one_later x xs t (k, below, is) = (suc k, (omega (arith, below)), is)
+one_at : {X : Type 0} (xs : List X) (n : ℕ) (x y : X) → At xs n x → At xs n y → x ≡ y
+one_at xs n x y at there = sym at.1 ∙ get_or_default xs n x y at.0 ∙ there.1
 
-none_there : (t : ℕ) → Contains [] t → ⊥
-none_there t (k, below, is) = omega (arith, below)
+same_owner : (m n : MethodId) → m.0 ≡ n.0 → m ≡ n
+same_owner m n same = ap (λ (k : ℕ). let r : MethodId = record { 0 = k } in r) same
 
--- what the rest of one list has the rest of the other has
-rest_has : (x y : ℕ) (xs ys : List ℕ) (t : ℕ) → x ≡ y → Rise (x ∷ xs) → Contains xs t → Contains (y ∷ ys) t → Contains ys t
-rest_has x y xs ys t same up has there = elim (cons_cases y ys t there) [
-  | inl here ↦ absurd (let less = first_below x xs t up has in omega (arith, less, here, same))
-  | inr rest ↦ rest
-]
+same_stmt : (s t : StmtId) → s.0 ≡ t.0 → s ≡ t
+same_stmt s t same = ap (λ (k : ℕ). let r : StmtId = record { 0 = k } in r) same
 
-one_first : (x y : ℕ) (xs ys : List ℕ) → Rise (x ∷ xs) → Rise (y ∷ ys) → Contains (y ∷ ys) x → Contains (x ∷ xs) y → x ≡ y
-one_first x y xs ys up down here there = elim (cons_cases y ys x here) [
-  | inl same ↦ sym same
-  | inr later ↦ elim (cons_cases x xs y there) [
-    | inl same ↦ same
-    | inr behind ↦ absurd (let one = first_below y ys x down later in let two = first_below x xs y up behind in omega (arith, one, two))
-  ]
-]
+module _ (cs : List Class) (lines : List Line) (numbered : HaveOneNumber cs) (c d : Code) where
+  module _ (one : AreMethods cs c) (two : AreMethods cs d) where
+    same_firsts : d.firsts ≡ c.firsts
+    same_firsts = one_list d.firsts c.firsts (two.count ∙ sym one.count) (λ k s t at there. same_stmt s t (two.firsts (record { 0 = k }) s at ∙ sym (one.firsts (record { 0 = k }) t there)))
 
-cons_same : (x y : ℕ) (xs ys : List ℕ) → x ≡ y → xs ≡ ys → x ∷ xs ≡ y ∷ ys
-cons_same x y xs ys e f = cc
+    same_locals : d.locals ≡ c.locals
+    same_locals = one_list d.locals c.locals (two.counted ∙ sym one.counted) (λ k m n at there.
+        let below : k < length (all_methods cs) = let less = at.0 in let count = two.counted in omega (arith, less, count) in
+        by k m n at there (item_there (all_methods cs) k below)) where
+          by : (k m n : ℕ) → At d.locals k m → At c.locals k n → (own : Class × Method) × At (all_methods cs) k own → m ≡ n
+          by k m n at there ((class, method), stands) =
+              let first = two.locals (record { 0 = k }) class method stands in
+              let second = one.locals (record { 0 = k }) class method stands in
+              one_at d.locals k m (length (locals_of method)) at first ∙ sym (one_at c.locals k n (length (locals_of method)) there second)
 
-one_list : (xs ys : List ℕ) → Rise xs → Rise ys → ((t : ℕ) → Contains xs t → Contains ys t) → ((t : ℕ) → Contains ys t → Contains xs t) → xs ≡ ys
-one_list [] [] up down f g = refl
-one_list [] (y ∷ ys) up down f g = absurd (none_there y (g y (here_first y ys)))
-one_list (x ∷ xs) [] up down f g = absurd (none_there x (f x (here_first x xs)))
-one_list (x ∷ xs) (y ∷ ys) up down f g =
-    let same : x ≡ y = one_first x y xs ys up down (f x (here_first x xs)) (g y (here_first y ys)) in
-    let rest : xs ≡ ys = one_list xs ys (rest_rises x xs up) (rest_rises y ys down)
-    (λ t has. rest_has x y xs ys t same up has (f t (one_later x xs t has)))
-    (λ t has. rest_has y x ys xs t (sym same) down has (g t (one_later y ys t has))) in
-    cons_same x y xs ys same rest
+  module _ (one : AreStmts cs lines c) (two : AreStmts cs lines d) where
+    same_owners : d.owners ≡ c.owners
+    same_owners = one_list d.owners c.owners (two.owned ∙ sym one.owned) (λ k m n at there. one_at c.owners k m n ((one.owners (record { 0 = k }) m).1 ((two.owners (record { 0 = k }) m).0 at)) there)
 
--- lists of statements
+    -- the statement with a number
+    stmt_there : (xs : List Stmt) (k : ℕ) (n : ℕ) → n ≡ length xs → k < n → (stmt : Stmt) × At xs k stmt
+    stmt_there xs k n count below = item_there xs k (omega (arith, count, below))
 
-number_of : StmtId → ℕ
-number_of t = t.0
+    same_views : d.views ≡ c.views
+    same_views = one_list d.views c.views (two.viewed ∙ sym one.viewed) (λ k v w at there. by k v w at there (stmt_there (stmts_in cs) k (length d.views) two.viewed at.0)) where
+      by : (k : ℕ) (v w : View) → At d.views k v → At c.views k w → (stmt : Stmt) × At (stmts_in cs) k stmt → v ≡ w
+      by k v w at there (stmt, stands) = one_seen cs lines numbered k stmt v w (two.views k stmt v stands at) (one.views k stmt w stands there)
 
-same_id : (s t : StmtId) → s.0 ≡ t.0 → s ≡ t
-same_id s t e = ap (λ (n : ℕ). let u : StmtId = record { 0 = n } in u) e
+    same_nexts : d.nexts ≡ c.nexts
+    same_nexts = one_list d.nexts c.nexts (two.led ∙ sym one.led) (λ k qs rs at there.
+        one_row (λ (q : StmtId). q.0) rs qs (one.ascending k rs there) (two.ascending k qs at) (λ q. (
+          λ has. back k q qs at ((two.nexts (record { 0 = k }) q).1 ((one.nexts (record { 0 = k }) q).0 (rs, there, has))),
+          λ has. front k q rs there ((one.nexts (record { 0 = k }) q).1 ((two.nexts (record { 0 = k }) q).0 (qs, at, has))),
+        ))) where
+          back : (k : ℕ) (q : StmtId) (qs : List StmtId) → At d.nexts k qs → Follows d (record { 0 = k }) q → Contains qs q
+          back k q qs at (own, stands, has) = subst (λ (l : List StmtId). Contains l q) (one_at d.nexts k own qs stands at) has
 
-first_part : (x y : ℕ) (xs ys : List ℕ) → x ∷ xs ≡ y ∷ ys → x ≡ y
-first_part x y xs ys e = cc
+          front : (k : ℕ) (q : StmtId) (qs : List StmtId) → At c.nexts k qs → Follows c (record { 0 = k }) q → Contains qs q
+          front k q qs at (own, stands, has) = subst (λ (l : List StmtId). Contains l q) (one_at c.nexts k own qs stands at) has
 
-rest_part : (x y : ℕ) (xs ys : List ℕ) → x ∷ xs ≡ y ∷ ys → xs ≡ ys
-rest_part x y xs ys e = cc
+    same_targets : d.targets ≡ c.targets
+    same_targets = one_list d.targets c.targets (two.called ∙ sym one.called) (λ k ms ns at there. by k ms ns at there (stmt_there (stmts_in cs) k (length d.targets) two.called at.0)) where
+      by : (k : ℕ) (ms ns : List MethodId) → At d.targets k ms → At c.targets k ns → (stmt : Stmt) × At (stmts_in cs) k stmt → ms ≡ ns
+      by k ms ns at there (stmt, stands) =
+          let one = one.targets k stmt ns stands there in
+          let two = two.targets k stmt ms stands at in
+          one_row (λ (m : MethodId). m.0) ns ms one.ascending two.ascending (λ m. (λ has. (two.exact m).1 ((one.exact m).0 has), λ has. (one.exact m).1 ((two.exact m).0 has)))
 
-same_ids : (ss ts : List StmtId) → map (λ (t : StmtId). t.0) ss ≡ map (λ (t : StmtId). t.0) ts → ss ≡ ts
-same_ids [] [] e = refl
-same_ids [] (t ∷ ts) e = absurd (let long = ap (λ (xs : List ℕ). length xs) e in omega (arith, long))
-same_ids (s ∷ ss) [] e = absurd (let long = ap (λ (xs : List ℕ). length xs) e in omega (arith, long))
-same_ids (s ∷ ss) (t ∷ ts) e =
-    let one : s ≡ t = same_id s t (first_part s.0 t.0 (map (λ (t : StmtId). t.0) ss) (map (λ (t : StmtId). t.0) ts) e) in
-    let rest : ss ≡ ts = same_ids ss ts (rest_part s.0 t.0 (map (λ (t : StmtId). t.0) ss) (map (λ (t : StmtId). t.0) ts) e) in
-    cc
+abbrev app : List Class → List FieldSig → MethodId → List StmtId → List ℕ → ℕ → List View → List MethodId → List (List StmtId) → List (List MethodId) → App
+app classes fields root firsts locals count views owners nexts targets = record {
+  classes = classes;
+  fields = fields;
+  code = record {
+    root = root;
+    firsts = firsts;
+    locals = locals;
+    fields = count;
+    views = views;
+    owners = owners;
+    nexts = nexts;
+    targets = targets;
+  };
+}
 
-numbered_there : (ts : List StmtId) (n : ℕ) → Contains (map (λ (t : StmtId). t.0) ts) n → (t : StmtId) × (t.0 ≡ n) × Contains ts t
-numbered_there [] n has = absurd (none_there n has)
-numbered_there (t ∷ ts) n has = elim (cons_cases t.0 (map (λ (t : StmtId). t.0) ts) n has) [
-  | inl here ↦ (t, here, (0, (omega arith), refl))
-  | inr rest ↦ let h = numbered_there ts n rest in (h.0, h.1, (suc h.2.0, (let below = h.2.1 in omega (arith, below)), h.2.2))
-]
-
-numbered_back : (ts : List StmtId) (t : StmtId) → Contains ts t → Contains (map (λ (t : StmtId). t.0) ts) t.0
-numbered_back ts t (k, below, is) =
-    let long = length-map ts (λ (t : StmtId). t.0) in
-    (k, (omega (arith, below, long)), get_or-map (λ (t : StmtId). t.0) ts k t t.0 below ∙ ap (λ (t : StmtId). t.0) is)
-
-successors_once : (b : Body) (first s : ℕ) (ts us : List StmtId) → AreSuccessors b first s ts → AreSuccessors b first s us → us ≡ ts
-successors_once b first s ts us h k = same_ids us ts (one_list (map (λ (t : StmtId). t.0) us) (map (λ (t : StmtId). t.0) ts)
-    (AllPairs-from_increasing (map (λ (t : StmtId). t.0) us) k.ascending) (AllPairs-from_increasing (map (λ (t : StmtId). t.0) ts) h.ascending) (over us ts k h) (over ts us h k)) where
-      over : (xs ys : List StmtId) → AreSuccessors b first s xs → AreSuccessors b first s ys → (n : ℕ) → Contains (map (λ (t : StmtId). t.0) xs) n → Contains (map (λ (t : StmtId). t.0) ys) n
-      over xs ys f g n has =
-          let at = numbered_there xs n has in
-          subst (λ (m : ℕ). Contains (map (λ (t : StmtId). t.0) ys) m) at.1 (numbered_back ys at.0 ((g.exact at.0).1 ((f.exact at.0).0 at.2)))
-
--- lists that are the same at each place
-same_lists : {X : Type 0} (xs ys : List X) → length xs ≡ length ys → ((k : ℕ) (x y : X) → At xs k x → At ys k y → y ≡ x) → ys ≡ xs
-same_lists [] [] long each = refl
-same_lists [] (y ∷ ys) long each = absurd (omega (arith, long))
-same_lists (x ∷ xs) [] long each = absurd (omega (arith, long))
-same_lists (x ∷ xs) (y ∷ ys) long each =
-    let one : y ≡ x = each 0 x y ((omega arith), refl) ((omega arith), refl) in
-    let rest : ys ≡ xs = same_lists xs ys (omega (arith, long)) (λ k a b f g. each (suc k) a b ((let below = f.0 in omega (arith, below)), f.1) ((let below = g.0 in omega (arith, below)), g.1)) in
-    cc
-
-of_once : (first : ℕ) (body : Option Body) (xs ys : List (List StmtId)) → AreOf first body xs → AreOf first body ys → ys ≡ xs
-of_once first None xs ys h k = k ∙ sym h
-of_once first (Some b) xs ys h k = same_lists xs ys (h.count ∙ sym k.count) (λ s ts us f g. successors_once b first s ts us (h.each s ts f) (k.each s us g))
-
--- one list of lists
-pub nexts_once : (first : ℕ) (ms : List Method) (xs ys : List (List StmtId)) → AreNexts first ms xs → AreNexts first ms ys → ys ≡ xs
-nexts_once first [] xs ys h k = k ∙ sym h
-nexts_once first (m ∷ ms) xs ys (own, rest, is, here, later) (other, more, are, there, behind) =
-    let one : other ≡ own = of_once first m.body own other here there in
-    let all : more ≡ rest = nexts_once (first + length (stmts_of m)) ms rest more later behind in
-    are ∙ ap (λ (zs : List (List StmtId)). zs ++ more) one ∙ ap (λ (zs : List (List StmtId)). own ++ zs) all ∙ sym is
+-- the program is one, where the entry names one method and each reference has one number
+pub one_program : (cs : List Class) (lines : List Line) (entry : Sig) → HaveOneNumber cs → ((n m : MethodId) → IsDeclared cs entry n → IsDeclared cs entry m → n ≡ m)
+    → (p q : App) → IsProgram cs lines entry p → IsProgram cs lines entry q → q ≡ p
+one_program cs lines entry numbered declared p q one two =
+    let c = p.code in
+    let d = q.code in
+    ap (λ x. app x q.fields d.root d.firsts d.locals d.fields d.views d.owners d.nexts d.targets) (two.classes ∙ sym one.classes)
+    ∙ ap (λ x. app p.classes x d.root d.firsts d.locals d.fields d.views d.owners d.nexts d.targets) (two.fields ∙ sym one.fields)
+    ∙ ap (λ x. app p.classes p.fields x d.firsts d.locals d.fields d.views d.owners d.nexts d.targets) (declared d.root c.root two.root one.root)
+    ∙ ap (λ x. app p.classes p.fields c.root x d.locals d.fields d.views d.owners d.nexts d.targets) (same_firsts cs lines numbered c d one.methods two.methods)
+    ∙ ap (λ x. app p.classes p.fields c.root c.firsts x d.fields d.views d.owners d.nexts d.targets) (same_locals cs lines numbered c d one.methods two.methods)
+    ∙ ap (λ x. app p.classes p.fields c.root c.firsts c.locals x d.views d.owners d.nexts d.targets) (two.numbered ∙ sym one.numbered)
+    ∙ ap (λ x. app p.classes p.fields c.root c.firsts c.locals c.fields x d.owners d.nexts d.targets) (same_views cs lines numbered c d one.stmts two.stmts)
+    ∙ ap (λ x. app p.classes p.fields c.root c.firsts c.locals c.fields c.views x d.nexts d.targets) (same_owners cs lines numbered c d one.stmts two.stmts)
+    ∙ ap (λ x. app p.classes p.fields c.root c.firsts c.locals c.fields c.views c.owners x d.targets) (same_nexts cs lines numbered c d one.stmts two.stmts)
+    ∙ ap (λ x. app p.classes p.fields c.root c.firsts c.locals c.fields c.views c.owners c.nexts x) (same_targets cs lines numbered c d one.stmts two.stmts)

@@ -1,7 +1,4 @@
-pub mod Calls
-pub mod Index
-pub mod Kinds
-pub mod Successors
-pub mod Known
-pub mod Views
 pub mod Program
+pub mod Faults
+pub mod Ends
+pub mod Gathered

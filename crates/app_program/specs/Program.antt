@@ -1,50 +1,46 @@
--- The program of a class and a list, entered at a method (docs/ARCHITECTURE.md, "The way of one input").
-use Rattle.std.specs.Prelude.{◌≡◌, ℕ, suc, ◌+◌, Option, Some, None, List, [], ◌∷◌, ◌++◌, length, replicate}
-use Rattle.clean_base.specs.declared.fault.InputFault.TheVariants.{EntryMissing}
-use Rattle.clean_base.specs.declared.fault.Stop.{Stop}
-use Rattle.clean_base.specs.declared.fault.Stop.TheVariants.{Fault, OutOfMemory}
+-- The program of classes and a list, entered at a method (docs/ARCHITECTURE.md, "The way of one input").
+use Rattle.std.specs.Prelude.{◌≡◌, ◌↔◌, ◌+◌, ℕ, List, length, map}
+use Rattle.std.specs.List.Sorted.{IsStrictlyIncreasing}
+use Rattle.clean_base.specs.Lists.{At}
 use Rattle.clean_base.specs.declared.ids.MethodId.{MethodId}
 use Rattle.clean_base.specs.declared.ids.StmtId.{StmtId}
-use Rattle.jimple_tree.specs.Bodies.{bodied, stmts_of, all_stmts}
-use Rattle.jimple_tree.specs.declared.tree.Body.{Body}
 use Rattle.jimple_tree.specs.declared.tree.Class.{Class}
 use Rattle.jimple_tree.specs.declared.tree.Method.{Method}
 use Rattle.jimple_tree.specs.declared.tree.Sig.{Sig}
+use Rattle.jimple_tree.specs.declared.tree.Stmt.{Stmt}
 use Rattle.source_sink.specs.declared.line.Line.{Line}
-use Rattle.app_program.specs.Calls.{IsMethod}
-use Rattle.app_program.specs.Successors.{AreNextsOf}
-use Rattle.app_program.specs.Views.{AreViews}
-use Rattle.app_program.specs.declared.program.Program.{Program}
+use Rattle.access_path.specs.declared.view.View.{View}
+use Rattle.class_table.specs.Methods.{all_methods, stmts_in, IsDeclared, IsNumber}
+use Rattle.field_table.specs.Numbers.{field_sigs, own_fields}
+use Rattle.flow_rules.specs.Code.{Code, Follows, StandsIn}
+use Rattle.program_code.specs.App.{App, locals_of}
+use Rattle.statement_graph.specs.Statements.{first_of, IsOf, Leads}
+use Rattle.statement_views.specs.Seen.{AreTargets, Sees}
 
--- for each statement of the methods, which are numbered from this number on, its method
-abbrev pub owners_from : ℕ → List Method → List MethodId
-owners_from n [] = []
-owners_from n (m ∷ ms) = replicate (length (stmts_of m)) (record { 0 = n }) ++ owners_from (suc n) ms
+-- the methods with a body: where each begins, and how many locals it has
+pub record AreMethods (cs : List Class) (code : Code) : Type 0 where
+  pub count : length code.firsts ≡ length (all_methods cs)
+  pub firsts : (m : MethodId) (s : StmtId) → At code.firsts m.0 s → s.0 ≡ first_of cs m.0
+  pub counted : length code.locals ≡ length (all_methods cs)
+  pub locals : (m : MethodId) (c : Class) (k : Method) → IsNumber cs m c k → At code.locals m.0 (length (locals_of k))
 
--- the first statement of each method, where so many statements stand before
-abbrev pub firsts_from : ℕ → List Method → List StmtId
-firsts_from at [] = []
-firsts_from at (m ∷ ms) = record { 0 = at } ∷ firsts_from (at + length (stmts_of m)) ms
+-- the statements of all bodies: of each its method, its view, its successors and the methods that its open call may come to
+pub record AreStmts (cs : List Class) (lines : List Line) (code : Code) : Type 0 where
+  pub owned : length code.owners ≡ length (stmts_in cs)
+  pub owners : (s : StmtId) (m : MethodId) → StandsIn code s m ↔ IsOf cs s m
+  pub viewed : length code.views ≡ length (stmts_in cs)
+  pub views : (s : ℕ) (stmt : Stmt) (view : View) → At (stmts_in cs) s stmt → At code.views s view → Sees cs lines s stmt view
+  pub led : length code.nexts ≡ length (stmts_in cs)
+  pub ascending : (s : ℕ) (qs : List StmtId) → At code.nexts s qs → IsStrictlyIncreasing (map (λ (q : StmtId). q.0) qs)
+  pub nexts : (s q : StmtId) → Follows code s q ↔ Leads cs s q
+  pub called : length code.targets ≡ length (stmts_in cs)
+  pub targets : (s : ℕ) (stmt : Stmt) (row : List MethodId) → At (stmts_in cs) s stmt → At code.targets s row → AreTargets cs lines stmt row
 
--- the successors of a body's statements, where so many statements stand before
-abbrev pub AreOf : ℕ → Option Body → List (List StmtId) → Type 0
-AreOf first None nexts = nexts ≡ []
-AreOf first (Some body) nexts = AreNextsOf body first nexts
-
--- those of the statements of the methods, one method after another
-abbrev pub AreNexts : ℕ → List Method → List (List StmtId) → Type 0
-AreNexts first [] nexts = nexts ≡ []
-AreNexts first (m ∷ ms) nexts = (own : List (List StmtId)) × (more : List (List StmtId)) × (nexts ≡ own ++ more) × AreOf first m.body own × AreNexts (first + length (stmts_of m)) ms more
-
--- methods with a body and statements are numbered in the order of the text, and the entry names the root
-pub record IsProgram (class : Class) (lines : List Line) (entry : Sig) (p : Program) : Type 0 where
-  pub views : AreViews class lines (all_stmts class.methods) p.code.views
-  pub owners : p.code.owners ≡ owners_from 0 (bodied class.methods)
-  pub firsts : p.code.firsts ≡ firsts_from 0 (bodied class.methods)
-  pub nexts : AreNexts 0 class.methods p.code.nexts
-  pub root : IsMethod class entry p.root
-
--- why there is none: the class has no method of that signature with a body, or memory ran out
-abbrev pub NoProgram : Class → Sig → Stop → Type 0
-NoProgram class entry (Fault why) = ((n : MethodId) → IsMethod class entry n → ⊥) × (why ≡ EntryMissing)
-NoProgram class entry OutOfMemory = Unit {0}
+-- entered at the method that is declared under the signature
+pub record IsProgram (cs : List Class) (lines : List Line) (entry : Sig) (app : App) : Type 0 where
+  pub classes : app.classes ≡ cs
+  pub fields : app.fields ≡ field_sigs cs
+  pub numbered : app.code.fields ≡ own_fields + length (field_sigs cs)
+  pub root : IsDeclared cs entry app.code.root
+  pub methods : AreMethods cs app.code
+  pub stmts : AreStmts cs lines app.code

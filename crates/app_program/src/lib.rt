@@ -1,13 +1,10 @@
-// The program of a class and a list: its methods and statements numbered, each statement as the flow rules see it. Trees
-// of classes, lists and the flow rules stand below; the top call above.
+// Programs of classes and lists. Tables of classes, their fields, statements, calls and views stand below; the top call above.
 #![tactic(auto)]
 
 mod calls;
-mod index;
-mod nexts;
-pub mod program;
-mod successors;
-mod views;
+pub mod code_lists;
+pub mod ends;
+mod methods;
+mod program;
 
-pub use program::{Program, assemble};
-pub use successors::next_places;
+pub use program::assemble;

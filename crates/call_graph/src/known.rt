@@ -63,7 +63,7 @@ fn look_up(
 ) -> Result<KnownSig, AllocError>
     ensures { IfOk result (IsKnown table.now lists.now sig.now) }
 {
-    let said = kind_of(table, lists, sig);
+    let said = kind_of(alloc, table, lists, sig)?;
     let own = open_targets(alloc, table, said, InvokeKind::Special, sig)?;
     let below = open_targets(alloc, table, said, InvokeKind::Virtual, sig)?;
     Ok(KnownSig {

@@ -6,6 +6,6 @@ mod calls;
 pub mod edges;
 pub mod known;
 
-pub use calls::{kind_of, targets};
+pub use calls::{in_order, kind_of, targets};
 pub use edges::{CallEdge, CallGraph, call_of, graph};
 pub use known::{KnownCalls, KnownSig};

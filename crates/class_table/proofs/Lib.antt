@@ -1,13 +1,11 @@
-pub mod Aboves
-pub mod Adding
+pub mod Along
 pub mod Callable
-pub mod Concretes
 pub mod Doubles
 pub mod Exact
 pub mod Faulty
-pub mod Firsts
+pub mod First
 pub mod Linked
-pub mod Linkings
+pub mod Marked
 pub mod Named
 pub mod Numbers
 pub mod Once
@@ -17,3 +15,4 @@ pub mod Rowed
 pub mod Searched
 pub mod Signed
 pub mod Walked
+pub mod Walking

@@ -8,8 +8,8 @@ use Rattle.jimple_tree.specs.declared.tree.Class.{Class}
 use Rattle.reach_rows.specs.Graphs.{row, Steps, IsGraph, IsOrder, IsOnCycle, IsFirstOnCycle}
 use Rattle.reach_rows.specs.Reaches.{Reaches, Follows, here, on}
 use Rattle.class_table.specs.Faults.{HaveNames, IsFirstCycle, IsAcyclic}
-use Rattle.class_table.specs.Hierarchy.{class_names, given, names_of, names_in, heading, Extends, Subtype}
-use Rattle.class_table.specs.Links.{name_at, AreRows, IsLink}
+use Rattle.class_table.specs.Hierarchy.{class_names, given, names_of, names_in, heading, Extends}
+use Rattle.class_table.specs.Links.{name_at, AreRows}
 use Rattle.class_table.specs.Resolving.{superclass, interfaces}
 use Rattle.class_table.proofs.Doubles.{names_distinct, own_number, between}
 use Rattle.class_table.proofs.Named.{given_is}
@@ -80,13 +80,13 @@ module _ (cs : List Class) where
         omega (arith, each, same, count)
 
   module _ (rows : List (List ℕ)) (are : AreRows cs heading rows) where
-    reach_names : {i j : ℕ} → Reaches (Steps rows) i j → (x y : List ℕ) → At (class_names cs) i x → At (class_names cs) j y → Reaches (Extends cs) x y
+    pub reach_names : {i j : ℕ} → Reaches (Steps rows) i j → (x y : List ℕ) → At (class_names cs) i x → At (class_names cs) j y → Reaches (Extends cs) x y
     reach_names {i} here x y at other = subst (λ (z : List ℕ). Reaches (Extends cs) x z) (sym (name_is i x at) ∙ name_is i y other) here
     reach_names (on {a} {b} {c} step rest) x y at other =
         let within : b < length (class_names cs) = step_to heading rows are a b step in
         on (step_names heading rows are a b x (name_at cs b) at (at_name b within) step) (reach_names rest (name_at cs b) y (at_name b within) other)
 
-    reach_numbers : {x y : List ℕ} → Reaches (Extends cs) x y → (i : ℕ) → At (class_names cs) i x → (j : ℕ) × At (class_names cs) j y × Reaches (Steps rows) i j
+    pub reach_numbers : {x y : List ℕ} → Reaches (Extends cs) x y → (i : ℕ) → At (class_names cs) i x → (j : ℕ) × At (class_names cs) j y × Reaches (Steps rows) i j
     reach_numbers here i at = (i, at, here)
     reach_numbers (on {a} {b} {c} step rest) i at =
         let next = names_step heading rows are i a b at step in
@@ -191,29 +191,12 @@ interfaces_within c y has = by c.is_interface has where
   by true has = has
   by false has = Contains-append_right c.extends c.implements y has
 
--- what stands above a name, as a table keeps it
-module _ (cs : List Class) (belows : List (List ℕ)) (link : IsLink cs heading belows) where
-  count : length belows ≡ length (class_names cs)
-  count = link.below.count ∙ link.are.count
+-- graphs and an order that were read
+module _ (cs : List Class) where
+  pub read_graph : (kind : Class → List (List ℕ)) (rows read : List (List ℕ)) → AreRows cs kind rows → read ≡ rows → IsGraph read
+  read_graph kind rows read are same = subst (λ (l : List (List ℕ)). IsGraph l) (sym same) (is_graph cs kind rows are)
 
-  pub above_subtype : (a b : ℕ) (below : List ℕ) → At belows a below → Contains below b → (x y : List ℕ) × At (class_names cs) a x × At (class_names cs) b y × Subtype cs x y
-  above_subtype a b below at has =
-      let follows = (link.below.reached a below at b).0 has in
-      let long = count in
-      let within : a < length (class_names cs) = let less = at.0 in omega (arith, less, long) in
-      let beyond : b < length (class_names cs) = last follows in
-      let x = name_at cs a in
-      let y = name_at cs b in
-      let up = follow_names cs link.rows link.are a b x y (at_name cs a within) (at_name cs b beyond) follows in
-      (x, y, at_name cs a within, at_name cs b beyond, on up.step up.rest) where
-        rest_within : {i j : ℕ} → Reaches (Steps link.rows) i j → i < length (class_names cs) → j < length (class_names cs)
-        rest_within here less = less
-        rest_within (on {a} {b} {c} step rest) less = rest_within rest (step_to cs heading link.rows link.are a b step)
-
-        last : Follows (Steps link.rows) a b → b < length (class_names cs)
-        last follows = rest_within follows.rest (step_to cs heading link.rows link.are a follows.by follows.step)
-
-  pub subtype_above : (a b : ℕ) (below : List ℕ) (x y : List ℕ) → At belows a below → At (class_names cs) a x → At (class_names cs) b y → Subtype cs x y → (a ≡ b) ⊎ Contains below b
-  subtype_above a b below x y at one other here = inl (one_number cs a b x one other)
-  subtype_above a b below x y at one other (on {b = l} step rest) =
-      inr ((link.below.reached a below at b).1 (follow_numbers cs link.rows link.are a b x y one other (record { by = l; step = step; rest = rest })))
+  pub read_order : (kind : Class → List (List ℕ)) (rows part read : List (List ℕ)) (order known : List ℕ) → AreRows cs heading rows → AreRows cs kind part → ((c : Class) (y : List ℕ) → Contains (kind c) y → Contains (heading c) y)
+      → IsOrder rows order → read ≡ part → known ≡ order → IsOrder read known
+  read_order kind rows part read order known are these within is same was =
+      subst (λ (l : List (List ℕ)). IsOrder l known) (sym same) (subst (IsOrder part) (sym was) (order_of_part cs rows are kind part these within order is))

@@ -1,21 +1,17 @@
 -- Items that go into a list one after another, each once.
-use Rattle.std.proofs.Common.{◌≡◌, ◌≢◌, ◌<◌, ◌⊎◌, ℕ, Bool, true, false, List, [], ◌∷◌, ◌++◌, length, get_or, zero, suc, fold, if◌then◌else◌, Some, None, cond, nat_lt, refl, sym, ap, subst, ◌∙◌, inl, inr, arith, true≢false, append_assoc}
+use Rattle.std.proofs.Common.{◌≡◌, ◌≢◌, ◌<◌, ◌⊎◌, ℕ, Bool, true, false, List, [], ◌∷◌, ◌++◌, length, get_or, zero, suc, fold, if◌then◌else◌, Some, refl, sym, ap, subst, ◌∙◌, inl, inr, arith, true≢false, append_assoc}
 use Rattle.std.specs.Prelude.{Contains, position}
-use Rattle.std.specs.List.{list_any, position_or_len}
+use Rattle.std.specs.List.{list_any}
 use Rattle.std.proofs.lemmas.List.{append-nil, get_or_append_left, get_or_at, length-append}
 use Rattle.std.proofs.lemmas.List.Elements.{Contains-get_or, Contains-append_left, Contains-push}
-use Rattle.std.proofs.lemmas.Bool.{lt-ltb}
 use Rattle.std.proofs.lemmas.List.Folds.{list_any_at}
-use Rattle.std.proofs.lemmas.List.Sums.{fold-append, position_or_len_is}
+use Rattle.std.proofs.lemmas.List.Sums.{fold-append}
 use Rattle.std.proofs.lemmas.List.Quantifiers.{position-Some, all_pairs_push}
 use Rattle.indexmap.specs.IndexSet.{insert_key, insert_all}
 use Rattle.indexmap.proofs.CallerLemmas.{Contains-list_any}
 use Rattle.clean_base.specs.Lists.{At, IsDistinct}
 
--- items of a list, each by one place
-pub at_has : {X : Type 0} (xs : List X) (i : ℕ) (x : X) → At xs i x → Contains xs x
-at_has xs i x at = (i, at.0, at.1)
-
+-- an item stands at one place
 pub one_place : {X : Type 0} (xs : List X) → IsDistinct xs → (i j : ℕ) (x : X) → At xs i x → At xs j x → i ≡ j
 one_place xs distinct i j x at other = by (order i j) where
   order : (i j : ℕ) → (i < j) ⊎ ((j < i) ⊎ (i ≡ j))
@@ -119,15 +115,3 @@ module _ {X : Type 0} (eq : X → X → Bool) (tells : Tells eq) where
       let earlier : At keys k x = subst (λ (l : List X). At l k x) (sym front.1) ((let long = length-append xs front.0 in omega (arith, long, below)), get_or_append_left xs front.0 x k below ∙ same) in
       let one : k ≡ length xs = one_place keys (all_distinct [] (xs ++ x ∷ ys) (λ i j d less within. absurd (omega (arith, within)))) k (length xs) x earlier at in
       omega (arith, one, below)
-
-  -- a search finds the item's place
-  pub position_of : (xs : List X) (x : X) (i : ℕ) → IsDistinct xs → At xs i x → position (eq x) xs ≡ Some i
-  position_of xs x i distinct at =
-      let first : position_or_len (eq x) xs ≡ i = position_or_len_is (eq x) xs i x (let below = at.0 in omega (arith, below)) (λ k less. earlier k less) (λ _. (tells x (get_or xs i x)).1 (sym at.1)) in
-      let within : nat_lt i (length xs) ≡ true = lt-ltb i (length xs) at.0 in
-      ap (λ (n : ℕ). cond (nat_lt n (length xs)) (Some n) None) first ∙ ap (λ (b : Bool). cond b (Some i) None) within where
-        earlier : (k : ℕ) → k < i → eq x (get_or xs k x) ≡ false
-        earlier k less = by (eq x (get_or xs k x)) refl where
-          by : (b : Bool) → eq x (get_or xs k x) ≡ b → eq x (get_or xs k x) ≡ false
-          by true passes = absurd (distinct k i x less at.0 (sym ((tells x (get_or xs k x)).0 passes) ∙ sym at.1))
-          by false fails = fails

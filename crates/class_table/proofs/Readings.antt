@@ -1,23 +1,20 @@
 -- What a table reads of its parts.
-use Rattle.std.proofs.Common.{◌≡◌, ◌<◌, ◌≤◌, ◌⊎◌, inl, inr, ℕ, Bool, false, IsTrue, eqb, List, [], length, get_or, Some, None, refl, sym, ap, subst, ◌∙◌, arith, true≢false}
-use Rattle.std.specs.Prelude.{Contains, Option, MatchOption, IfSome, IfNone}
+use Rattle.std.proofs.Common.{◌≡◌, ◌↔◌, ◌<◌, ◌≤◌, ◌⊎◌, inl, inr, ℕ, Bool, true, false, IsTrue, List, length, get_or, Some, None, refl, sym, ap, subst, ◌∙◌, arith, true≢false}
+use Rattle.std.specs.Prelude.{Option, MatchOption, IfSome, IfNone}
 use Rattle.std.specs.List.{HoldsAt}
 use Rattle.std.specs.Borrow.{Bor}
-use Rattle.std.proofs.lemmas.Bool.Decides.{Decides-eqb}
-use Rattle.std.proofs.lemmas.List.{get_or_default}
 use Rattle.clean_base.specs.Lists.{At}
 use Rattle.clean_base.specs.declared.ids.ClassId.{ClassId}
 use Rattle.jimple_tree.specs.declared.tree.Class.{Class}
+use Rattle.reach_rows.specs.Graphs.{Steps}
+use Rattle.reach_rows.specs.Reaches.{Reaches, here}
 use Rattle.class_table.specs.Faults.{HaveNames}
 use Rattle.class_table.specs.Hierarchy.{class_names, given, heading, IsSubtype}
-use Rattle.class_table.specs.Links.{name_at, IsLink}
+use Rattle.class_table.specs.Links.{name_at, AreRows}
+use Rattle.class_table.specs.Marks.{AreMarked}
 use Rattle.class_table.proofs.Doubles.{own_number}
-use Rattle.class_table.proofs.Linked.{name_is, at_name, one_number, above_subtype, subtype_above}
+use Rattle.class_table.proofs.Linked.{name_is, at_name, one_number, reach_names, reach_numbers}
 use Rattle.class_table.proofs.Named.{given_is, given_own}
-
--- a list that was read among lists
-pub read_list : {X : Type 0} (lists got : List (List X)) (i : ℕ) (item read : List X) → got ≡ lists → i < length lists → item ≡ get_or got i item → read ≡ item → read ≡ get_or lists i []
-read_list {X} lists got i item read same below is all = all ∙ is ∙ ap (λ (ls : List (List X)). get_or ls i item) same ∙ get_or_default lists i item [] below
 
 -- a test of a limit that fails
 pub too_many : (n most : ℕ) (b : Bool) → (n ≤ most → IsTrue b) → b ≡ false → most < n
@@ -58,16 +55,37 @@ module _ (cs : List Class) (names : HaveNames cs) (i : ℕ) where
   no_class within None past = given_past cs names i within past
   no_class within (Some x) h = tt
 
--- what a list of those above tells of two numbers that differ
-module _ (cs : List Class) (belows : List (List ℕ)) (link : IsLink cs heading belows) (a b : ClassId) (below : List ℕ) (at : At belows a.0 below) where
-  pub above_tells : Contains below b.0 → IsSubtype cs a b
-  above_tells has = inr (above_subtype cs belows link a.0 b.0 below at has)
+-- what marks on the graph of headings tell of classes
+module _ (cs : List Class) (headings : List (List ℕ)) (are : AreRows cs heading headings) where
+  subtype_reach : (a b : ClassId) → a.0 < length headings → IsSubtype cs a b → Reaches (Steps headings) a.0 b.0
+  subtype_reach a b below (inl same) = subst (λ (k : ClassId). Reaches (Steps headings) a.0 k.0) same here
+  subtype_reach a b below (inr (x, y, one, two, up)) =
+      let found = reach_numbers cs headings are up a.0 one in
+      subst (Reaches (Steps headings) a.0) (one_number cs found.0 b.0 y found.1 two) found.2
 
-  pub above_told : false ≡ eqb a.0 b.0 → IsSubtype cs a b → Contains below b.0
-  above_told differ (inl same) = absurd (other differ (ap (λ (k : ClassId). k.0) same)) where
-    other : false ≡ eqb a.0 b.0 → a.0 ≡ b.0 → ⊥
-    other differ same = true≢false (sym ((Decides-eqb a.0 b.0).1 same) ∙ sym differ)
-  above_told differ (inr (x, y, one, two, up)) = by (subtype_above cs belows link a.0 b.0 below x y at one two up) where
-    by : (a.0 ≡ b.0) ⊎ Contains below b.0 → Contains below b.0
-    by (inl same) = absurd (true≢false (sym ((Decides-eqb a.0 b.0).1 same) ∙ sym differ))
-    by (inr has) = has
+  reach_subtype : (a b : ClassId) → a.0 < length headings → b.0 < length headings → Reaches (Steps headings) a.0 b.0 → IsSubtype cs a b
+  reach_subtype a b below inside way =
+      let count = are.count in
+      let one = at_name cs a.0 (omega (arith, below, count)) in
+      let two = at_name cs b.0 (omega (arith, inside, count)) in
+      inr (name_at cs a.0, name_at cs b.0, one, two, reach_names cs headings are way (name_at cs a.0) (name_at cs b.0) one two)
+
+  subtype_within : (a b : ClassId) → b.0 < length headings → IsSubtype cs a b → a.0 < length headings
+  subtype_within a b below (inl same) = subst (λ (k : ClassId). k.0 < length headings) (sym same) below
+  subtype_within a b below (inr (x, y, one, two, up)) = let inside = one.0 in let count = are.count in omega (arith, inside, count)
+
+  within_subtype : (a b : ClassId) → a.0 < length headings → IsSubtype cs a b → b.0 < length headings
+  within_subtype a b below (inl same) = subst (λ (k : ClassId). k.0 < length headings) same below
+  within_subtype a b below (inr (x, y, one, two, up)) = let inside = two.0 in let count = are.count in omega (arith, inside, count)
+
+  pub marked_above : (a : ClassId) (marks : List Bool) → a.0 < length headings → AreMarked headings (λ b. Reaches (Steps headings) a.0 b) marks → (name : ClassId) → At marks name.0 true ↔ IsSubtype cs a name
+  marked_above a marks below marked name = (
+    (λ at. let inside = at.0 in let count = marked.count in let within : name.0 < length headings = omega (arith, inside, count) in reach_subtype a name below within ((marked.each name.0 within).0 at)),
+    (λ up. (marked.each name.0 (within_subtype a name below up)).1 (subtype_reach a name below up)),
+  )
+
+  pub marked_below : (a : ClassId) (marks : List Bool) → a.0 < length headings → AreMarked headings (λ b. Reaches (Steps headings) b a.0) marks → (name : ClassId) → At marks name.0 true ↔ IsSubtype cs name a
+  marked_below a marks below marked name = (
+    (λ at. let inside = at.0 in let count = marked.count in let within : name.0 < length headings = omega (arith, inside, count) in reach_subtype name a within below ((marked.each name.0 within).0 at)),
+    (λ up. let within = subtype_within name a below up in (marked.each name.0 within).1 (subtype_reach name a within up)),
+  )

@@ -1,9 +1,7 @@
 -- The classes of which there may be objects (docs/FLOW-RULES.md, "Classes").
 use Rattle.std.specs.Prelude.{◌≡◌, ℕ, false, List, codes, Contains, Some}
-use Rattle.clean_base.specs.Lists.{At}
-use Rattle.clean_base.specs.declared.ids.ClassId.{ClassId}
 use Rattle.jimple_tree.specs.declared.tree.Class.{Class}
-use Rattle.class_table.specs.Hierarchy.{class_names, given, Subtype}
+use Rattle.class_table.specs.Hierarchy.{given}
 
 -- a class is given under the name that is no interface and isn't abstract
 pub record IsConcrete (cs : List Class) (name : List ℕ) : Type 0 where
@@ -11,7 +9,3 @@ pub record IsConcrete (cs : List Class) (name : List ℕ) : Type 0 where
   pub given : given cs name ≡ Some class
   pub no_interface : class.is_interface ≡ false
   pub not_abstract : Contains class.modifiers (codes "abstract") → ⊥
-
--- the name of the first number is a concrete subtype of the other
-abbrev pub IsConcreteSubtype : List Class → ClassId → List ℕ → Type 0
-IsConcreteSubtype cs sub name = (own : List ℕ) × At (class_names cs) sub.0 own × IsConcrete cs own × Subtype cs own name

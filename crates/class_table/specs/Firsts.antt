@@ -1,13 +1,15 @@
 -- The first place of a list where something stands, and the methods that calls may come to there. The public contracts don't
 -- cite this.
-use Rattle.std.specs.Prelude.{ℕ, List, [], ◌∷◌, ◌++◌, flat_map, Option, Some, None}
+use Rattle.std.specs.Prelude.{◌≡◌, ℕ, List, [], ◌∷◌, length, Option, Some, None}
+use Rattle.clean_base.specs.Lists.{At}
 use Rattle.jimple_tree.specs.declared.tree.Class.{Class}
 use Rattle.jimple_tree.specs.declared.tree.Method.{Method}
 use Rattle.jimple_tree.specs.declared.tree.Sig.{Sig}
-use Rattle.reach_rows.specs.Graphs.{row}
+use Rattle.class_table.specs.Alongs.{first_some}
+use Rattle.class_table.specs.Hierarchy.{class_names}
 use Rattle.class_table.specs.Links.{name_at}
 use Rattle.class_table.specs.Members.{StandsAt}
-use Rattle.class_table.specs.Resolving.{HasCallable}
+use Rattle.class_table.specs.Resolving.{HasCallable, IsSearch}
 use Rattle.class_table.specs.declared.members.Place.{Place}
 
 -- what stands at the first item where something does
@@ -38,6 +40,17 @@ HasAt cs sig i place = HasCallableAt cs sig (name_at cs i) place
 abbrev pub IsFirst : List Class → Sig → List ℕ → Option Place → Type 0
 IsFirst cs sig numbers found = FirstOf (LacksAt cs sig) (HasAt cs sig) numbers found
 
--- the numbers of a class and of its superclasses, and then those of the interfaces above each of these
-abbrev pub looked_for : List ℕ → List (List ℕ) → List ℕ
-looked_for up interfaces = up ++ flat_map (row interfaces) up
+-- for each name where its own class has it
+pub record AreOwn (cs : List Class) (sig : Sig) (places : List (Option Place)) : Type 0 where
+  pub count : length places ≡ length (class_names cs)
+  pub each : (i : ℕ) (r : Option Place) → At places i r → IsFirst cs sig (i ∷ []) r
+
+-- the first ones, and where there is none the others
+pub record AreEither (first others places : List (Option Place)) : Type 0 where
+  pub count : length places ≡ length first
+  pub each : (i : ℕ) (x y r : Option Place) → At first i x → At others i y → At places i r → r ≡ first_some (x ∷ y ∷ [])
+
+-- for each name what stands first in the search for it
+pub record AreFound (cs : List Class) (sig : Sig) (places : List (Option Place)) : Type 0 where
+  pub count : length places ≡ length (class_names cs)
+  pub each : (i : ℕ) (r : Option Place) → At places i r → (search : List (List ℕ)) × IsSearch cs (name_at cs i) search × FirstOf (LacksCallable cs sig) (HasCallableAt cs sig) search r

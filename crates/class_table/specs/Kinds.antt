@@ -2,9 +2,8 @@
 use Rattle.std.specs.Prelude.{◌≡◌, ◌<◌, ℕ, List, [], length, slice_index_or, map, All}
 use Rattle.clean_base.specs.Lists.{At}
 use Rattle.jimple_tree.specs.declared.tree.Class.{Class}
-use Rattle.reach_rows.specs.Graphs.{row, IsOrder}
+use Rattle.reach_rows.specs.Graphs.{row}
 use Rattle.class_table.specs.Hierarchy.{heading}
-use Rattle.class_table.specs.Links.{AreRows}
 use Rattle.class_table.specs.Resolving.{superclass, interfaces}
 use Rattle.class_table.specs.declared.rows.Kind.{Kind}
 use Rattle.class_table.specs.declared.rows.Kind.TheVariants.{Heading, Superclass, Interfaces}
@@ -30,9 +29,3 @@ IsRow keys is names = (names_at keys is ≡ names) × AreWithin keys is
 pub record AreOwnRows (keys : List (List ℕ)) (kind : Class → List (List ℕ)) (cs : List Class) (rows : List (List ℕ)) : Type 0 where
   pub count : length rows ≡ length cs
   pub each : (i : ℕ) (c : Class) → At cs i c → IsRow keys (row rows i) (kind c)
-
--- an order of the graph of headings
-pub record IsHeadingOrder (cs : List Class) (order : List ℕ) : Type 0 where
-  pub rows : List (List ℕ)
-  pub are : AreRows cs heading rows
-  pub is : IsOrder rows order

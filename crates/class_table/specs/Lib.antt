@@ -1,5 +1,5 @@
+pub mod Alongs
 pub mod Concrete
-pub mod Concretes
 pub mod Faults
 pub mod Firsts
 pub mod Hierarchy
@@ -7,6 +7,7 @@ pub mod Index
 pub mod Kept
 pub mod Kinds
 pub mod Links
+pub mod Marks
 pub mod Members
 pub mod Methods
 pub mod Resolving

@@ -2,7 +2,7 @@
 use Rattle.std.specs.Prelude.{◌≡◌, ◌<◌, ℕ, List, [], length, slice_index_or, map, All}
 use Rattle.clean_base.specs.Lists.{At}
 use Rattle.jimple_tree.specs.declared.tree.Class.{Class}
-use Rattle.reach_rows.specs.Graphs.{row, AreBelow}
+use Rattle.reach_rows.specs.Graphs.{row}
 use Rattle.class_table.specs.Hierarchy.{class_names, names_in}
 
 -- the name of a number
@@ -14,9 +14,3 @@ pub record AreRows (cs : List Class) (kind : Class → List (List ℕ)) (rows : 
   pub count : length rows ≡ length (class_names cs)
   pub each : (i : ℕ) (name : List ℕ) → At (class_names cs) i name → map (name_at cs) (row rows i) ≡ names_in kind cs name
   pub within : (i : ℕ) → All (λ j. j < length (class_names cs)) (row rows i)
-
--- for each name the numbers of all that stand above it along names of one kind
-pub record IsLink (cs : List Class) (kind : Class → List (List ℕ)) (belows : List (List ℕ)) : Type 0 where
-  pub rows : List (List ℕ)
-  pub are : AreRows cs kind rows
-  pub below : AreBelow rows belows

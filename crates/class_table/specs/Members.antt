@@ -1,5 +1,5 @@
 -- What a table keeps of the methods of its classes. The public contracts don't cite this.
-use Rattle.std.specs.Prelude.{◌≡◌, ℕ, false, List, length, map, is_some, Option, Some, None}
+use Rattle.std.specs.Prelude.{◌≡◌, ◌<◌, ℕ, false, List, length, map, is_some, Option, Some, None}
 use Rattle.clean_base.specs.Lists.{At}
 use Rattle.clean_base.specs.declared.ids.MethodId.{MethodId}
 use Rattle.jimple_tree.specs.declared.tree.Class.{Class}
@@ -45,3 +45,11 @@ pub record ArePlaces (cs : List Class) (count : ℕ) (places : List Place) : Typ
 pub record AreMembers (cs : List Class) (members : Members) : Type 0 where
   pub owns : AreOwn cs (length cs) members.classes.items
   pub places : ArePlaces cs (length (all_methods cs)) members.places.items
+
+-- some class has a number at this place
+abbrev pub HasPlace : Members → Place → Type 0
+HasPlace members place = (own : ClassMembers) × At members.classes.items place.class own × (place.method < length own.numbers.items)
+
+-- which is this
+abbrev pub IsNumberAt : Members → Place → Option MethodId → Type 0
+IsNumberAt members place number = (own : ClassMembers) → At members.classes.items place.class own → At own.numbers.items place.method number

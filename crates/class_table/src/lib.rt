@@ -2,10 +2,11 @@
 // "Classes"). Trees of classes and graphs stand below; the call graph above.
 #![tactic(auto)]
 
-mod concrete;
+mod firsts;
 mod index;
 mod limits;
 mod links;
+mod marks;
 mod members;
 mod modifiers;
 mod names;

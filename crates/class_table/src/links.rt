@@ -1,28 +1,31 @@
-// What stands above each name of the hierarchy, along each kind of names. Its graphs stand below; the table above.
+// The graphs of the hierarchy, and an order of its names. The graph of one kind of names stands below; the table above.
 ghost use Rattle.std.specs.Prelude.{◌≡◌, ◌<◌, length, IfOk, IfErr, OnOk};
 ghost use Rattle.jimple_tree.specs.declared.tree.Class.{Class};
 ghost use Rattle.class_table.specs.Faults.{HaveNames, HasFewNames, IsAcyclic, IsFirstCycle, Refused};
-ghost use Rattle.class_table.specs.Hierarchy.{class_names};
+ghost use Rattle.class_table.specs.Hierarchy.{class_names, heading};
 ghost use Rattle.class_table.specs.Kept.{HasLinks};
-ghost use Rattle.class_table.specs.Kinds.{IsHeadingOrder, kind_names};
-ghost use Rattle.class_table.specs.Links.{IsLink, name_at};
+ghost use Rattle.class_table.specs.Kinds.{kind_names};
+ghost use Rattle.class_table.specs.Links.{AreRows, name_at};
+ghost use Rattle.reach_rows.specs.Graphs.{IsOrder};
 
 use crate::rows::{Kind, rows_of};
 use clean_base::{InputFault, Name, Seq, Stop};
 use indexmap::IndexSet;
 use jimple_tree::Class;
-use reach_rows::{OrderStop, order, walks};
+use reach_rows::{OrderStop, order};
 use std::alloc::{AllocError, Global};
 
-/// For each name the numbers of those above it.
+/// The graphs of the hierarchy.
 #[derive(Drop)]
 pub struct Links {
-    /// Along headings.
-    pub above: Vec<Seq<u32>>,
-    /// Along superclasses.
-    pub chains: Vec<Seq<u32>>,
-    /// Along interfaces.
+    /// For each name the numbers of those in its heading.
+    pub headings: Vec<Seq<u32>>,
+    /// Of these the superclass.
+    pub superclasses: Vec<Seq<u32>>,
+    /// And the interfaces.
     pub interfaces: Vec<Seq<u32>>,
+    /// The numbers of all names, each behind those in its heading.
+    pub order: Vec<u32>,
 }
 
 // That the class of this number stands above itself.
@@ -41,68 +44,48 @@ fn cycle(alloc: Global, names: &IndexSet<Name>, classes: &[Class], number: u32) 
 }
 
 // An order of the graph of headings.
-fn order_of(alloc: Global, names: &IndexSet<Name>, classes: &[Class]) -> Result<Vec<u32>, Stop>
+fn order_of(
+    alloc: Global,
+    names: &IndexSet<Name>,
+    classes: &[Class],
+    headings: &[Seq<u32>],
+) -> Result<Vec<u32>, Stop>
     requires keys { names.now.keys ≡ class_names classes.now }
     requires few { HasFewNames classes.now }
     requires distinct { HaveNames classes.now }
-    ensures order { IfOk result (λ order. IsHeadingOrder classes.now order.items) }
+    requires headings { AreRows classes.now heading headings.now }
+    ensures order { IfOk result (λ order. IsOrder headings.now order.items) }
     ensures acyclic { OnOk result (IsAcyclic classes.now) }
     ensures err { IfErr result (Refused classes.now) }
 {
-    let rows = match rows_of(alloc, names, Kind::Heading, classes) {
-        Ok(rows) => rows,
-        Err(AllocError) => return Err(Stop::OutOfMemory),
-    };
-    match order(alloc, rows.as_slice()) {
+    match order(alloc, headings) {
         Ok(order) => Ok(order),
         Err(OrderStop::Cycle(number)) => Err(cycle(alloc, names, classes, number)),
         Err(OrderStop::OutOfMemory) => Err(Stop::OutOfMemory),
     }
 }
 
-// What stands above each name along a kind of names.
-fn link(
+// The graph of the names of a kind.
+fn graph(
     alloc: Global,
     names: &IndexSet<Name>,
     classes: &[Class],
     kind: Kind,
-    order: &[u32],
-) -> Result<Vec<Seq<u32>>, AllocError>
+) -> Result<Vec<Seq<u32>>, Stop>
     requires keys { names.now.keys ≡ class_names classes.now }
     requires few { HasFewNames classes.now }
     requires distinct { HaveNames classes.now }
-    requires order { IsHeadingOrder classes.now order.now }
-    ensures { IfOk result (λ belows. IsLink classes.now (kind_names kind) belows.items) }
+    ensures rows { IfOk result (λ rows. AreRows classes.now (kind_names kind) rows.items) }
+    ensures err { IfErr result (Refused classes.now) }
 {
-    let rows = rows_of(alloc, names, kind, classes)?;
-    walks(alloc, rows.as_slice(), order)
-}
-
-// The links along each kind of names. An order of the graph of headings is one of the others, whose steps are among its own.
-fn links_along(
-    alloc: Global,
-    names: &IndexSet<Name>,
-    classes: &[Class],
-    order: &[u32],
-) -> Result<Links, AllocError>
-    requires keys { names.now.keys ≡ class_names classes.now }
-    requires few { HasFewNames classes.now }
-    requires distinct { HaveNames classes.now }
-    requires order { IsHeadingOrder classes.now order.now }
-    ensures { IfOk result (HasLinks classes.now) }
-{
-    let above = link(alloc, names, classes, Kind::Heading, order)?;
-    let chains = link(alloc, names, classes, Kind::Superclass, order)?;
-    let interfaces = link(alloc, names, classes, Kind::Interfaces, order)?;
-    Ok(Links {
-        above,
-        chains,
-        interfaces,
-    })
+    match rows_of(alloc, names, kind, classes) {
+        Ok(rows) => Ok(rows),
+        Err(AllocError) => Err(Stop::OutOfMemory),
+    }
 }
 
 impl Links {
-    /// The links of the classes, whose names are numbered. An error is the first class that stands above itself, or want of
+    /// The graphs of the classes, whose names are numbered. An error is the first class that stands above itself, or want of
     /// memory.
     pub fn new(alloc: Global, names: &IndexSet<Name>, classes: &[Class]) -> Result<Links, Stop>
         requires keys { names.now.keys ≡ class_names classes.now }
@@ -112,10 +95,15 @@ impl Links {
         ensures acyclic { OnOk result (IsAcyclic classes.now) }
         ensures err { IfErr result (Refused classes.now) }
     {
-        let order = order_of(alloc, names, classes)?;
-        match links_along(alloc, names, classes, order.as_slice()) {
-            Ok(links) => Ok(links),
-            Err(AllocError) => Err(Stop::OutOfMemory),
-        }
+        let headings = graph(alloc, names, classes, Kind::Heading)?;
+        let order = order_of(alloc, names, classes, headings.as_slice())?;
+        let superclasses = graph(alloc, names, classes, Kind::Superclass)?;
+        let interfaces = graph(alloc, names, classes, Kind::Interfaces)?;
+        Ok(Links {
+            headings,
+            superclasses,
+            interfaces,
+            order,
+        })
     }
 }

@@ -7,11 +7,10 @@ ghost use Rattle.clean_base.specs.declared.ids.MethodId.{MethodId};
 ghost use Rattle.jimple_tree.specs.WellFormed.{IsWellFormed};
 ghost use Rattle.jimple_tree.specs.declared.tree.Class.{Class};
 ghost use Rattle.jimple_tree.specs.declared.tree.Method.{Method};
-ghost use Rattle.class_table.specs.declared.members.ClassMembers.{ClassMembers};
 ghost use Rattle.class_table.specs.Faults.{IsTable};
 ghost use Rattle.class_table.specs.Hierarchy.{class_names};
 ghost use Rattle.class_table.specs.Methods.{all_methods, IsDeclared, IsNumber};
-ghost use Rattle.class_table.specs.Members.{AreMembers, AreNumbers, ArePlaces, IsMember, method_id};
+ghost use Rattle.class_table.specs.Members.{AreMembers, AreNumbers, ArePlaces, HasPlace, IsMember, IsNumberAt, method_id};
 
 use crate::index::{find, index_of};
 use crate::names::number_of;
@@ -130,8 +129,8 @@ impl Members {
 
     /// The number of the method that stands there.
     pub fn number(&self, place: Place) -> Option<MethodId>
-        requires { (own : ClassMembers) × At self.now.classes.items place.class own × (place.method < length own.numbers.items) }
-        ensures { (own : ClassMembers) → At self.now.classes.items place.class own → At own.numbers.items place.method result }
+        requires { HasPlace self.now place }
+        ensures { IsNumberAt self.now place result }
     {
         self.classes[place.class].numbers[place.method]
     }

@@ -1,22 +1,26 @@
 // Which method a call of a class and a signature comes to (docs/FLOW-RULES.md, "Resolution"). The methods of classes by number
-// and by signature stand below, and so do the links of the hierarchy, which are numbers of names.
-ghost use Rattle.std.specs.Prelude.{◌≡◌, ◌↔◌, ◌<◌, ◌∷◌, ℕ, List, [], flat_map, length, All, IsTrue, Some};
+// and by signature, the graphs of the hierarchy and what stands first along them stand below; the table above.
+ghost use Rattle.std.specs.Prelude.{◌≡◌, ◌↔◌, ◌<◌, ◌∷◌, ℕ, List, [], length, All, IfOk, IsTrue, None, Some};
 ghost use Rattle.clean_base.specs.Lists.{At};
+ghost use Rattle.clean_base.specs.declared.ids.ClassId.{ClassId};
 ghost use Rattle.clean_base.specs.declared.ids.MethodId.{MethodId};
 ghost use Rattle.jimple_tree.specs.WellFormed.{IsWellFormed};
-ghost use Rattle.reach_rows.specs.Graphs.{row};
 ghost use Rattle.class_table.specs.Faults.{IsTable};
-ghost use Rattle.class_table.specs.Firsts.{IsFirst, looked_for};
+ghost use Rattle.class_table.specs.Firsts.{IsFirst, AreEither, AreFound, AreOwn};
 ghost use Rattle.class_table.specs.Hierarchy.{class_names};
-ghost use Rattle.class_table.specs.Links.{IsLink};
-ghost use Rattle.class_table.specs.Members.{AreMembers};
-ghost use Rattle.class_table.specs.Resolving.{superclass, interfaces, MayBeCalled, Resolves};
+ghost use Rattle.class_table.specs.Kept.{HasLinks};
+ghost use Rattle.class_table.specs.Members.{AreMembers, HasPlace, IsNumberAt};
+ghost use Rattle.class_table.specs.Resolving.{MayBeCalled, Resolves};
+ghost use Rattle.class_table.specs.declared.members.Place.{Place};
 
+use crate::firsts::{along, next};
 use crate::index::find;
+use crate::links::Links;
 use crate::members::{Members, Place};
 use crate::modifiers::is_abstract;
-use clean_base::{ClassId, MethodId, Seq};
+use clean_base::{ClassId, MethodId};
 use jimple_tree::{Class, Method, Sig};
+use std::alloc::{AllocError, Global};
 
 fn may_be_called(method: &Method) -> bool
     ensures { IsTrue result ↔ MayBeCalled method.now }
@@ -48,100 +52,124 @@ fn callable(classes: &[Class], members: &Members, number: usize, sig: &Sig) -> O
     })
 }
 
-// The first of these.
-fn first_callable(classes: &[Class], members: &Members, numbers: &[u32], sig: &Sig) -> Option<Place>
-    requires formed { All IsWellFormed classes.now }
-    requires table { IsTable classes.now }
-    requires members { AreMembers classes.now members.now }
-    requires numbers { All (λ (i : ℕ). i < length (class_names classes.now)) numbers.now }
-    ensures { IsFirst classes.now sig.now numbers.now result }
-{
-    for number in numbers {
-        if let Some(place) = callable(classes, members, *number as usize, sig) {
-            return Some(place);
-        }
-    }
-    None
-}
-
-// The first in the interfaces above some classes, whose numbers these are.
-fn across(
+// For each name where its own class has it.
+fn own_places(
+    alloc: Global,
     classes: &[Class],
     members: &Members,
-    links: &[Seq<u32>],
-    numbers: &[u32],
+    count: usize,
     sig: &Sig,
-) -> Option<Place>
+) -> Result<Vec<Option<Place>>, AllocError>
     requires formed { All IsWellFormed classes.now }
     requires table { IsTable classes.now }
     requires members { AreMembers classes.now members.now }
-    requires links { IsLink classes.now interfaces links.now }
-    requires numbers { All (λ (i : ℕ). i < length (class_names classes.now)) numbers.now }
-    ensures { IsFirst classes.now sig.now (flat_map (row links.now) numbers.now) result }
+    requires count { count ≡ length (class_names classes.now) }
+    ensures { IfOk result (λ v. AreOwn classes.now sig.now v.items) }
 {
-    for number in numbers {
-        let above = links[*number as usize].as_slice();
-        if let Some(place) = first_callable(classes, members, above, sig) {
-            return Some(place);
+    let mut places = Vec::new(alloc);
+    for number in 0..count {
+        places.push(callable(classes, members, number, sig))?;
+    }
+    Ok(places)
+}
+
+// The first places, and where there is none the others.
+fn either(first: Vec<Option<Place>>, others: &[Option<Place>]) -> Vec<Option<Place>>
+    requires { length others.now ≡ length first.items }
+    ensures { AreEither first.items others.now result.items }
+{
+    let mut places = first;
+    for at in 0..places.len() {
+        if places[at].is_none() {
+            places[at] = others[at];
         }
     }
-    None
+    places
 }
 
-// The first in the class whose name has this number and in its superclasses, and then in the interfaces of these.
-fn search(
+// For each name where the method stands that a call of the signature on its class finds: in the class and its superclasses, or
+// else in the interfaces of these.
+fn found(
+    alloc: Global,
     classes: &[Class],
     members: &Members,
-    chains: &[Seq<u32>],
-    links: &[Seq<u32>],
-    class: usize,
+    links: &Links,
     sig: &Sig,
-) -> Option<Place>
+) -> Result<Vec<Option<Place>>, AllocError>
     requires formed { All IsWellFormed classes.now }
     requires table { IsTable classes.now }
     requires members { AreMembers classes.now members.now }
-    requires chains { IsLink classes.now superclass chains.now }
-    requires links { IsLink classes.now interfaces links.now }
-    requires class { class < length (class_names classes.now) }
-    ensures { IsFirst classes.now sig.now (looked_for (class ∷ row chains.now class) links.now) result }
+    requires links { HasLinks classes.now links.now }
+    ensures { IfOk result (λ v. AreFound classes.now sig.now v.items) }
 {
-    let chain = chains[class].as_slice();
-    let own = links[class].as_slice();
-    if let Some(place) = callable(classes, members, class, sig) {
-        return Some(place);
-    }
-    if let Some(place) = first_callable(classes, members, chain, sig) {
-        return Some(place);
-    }
-    if let Some(place) = first_callable(classes, members, own, sig) {
-        return Some(place);
-    }
-    across(classes, members, links, chain, sig)
+    let superclasses = links.superclasses.as_slice();
+    let interfaces = links.interfaces.as_slice();
+    let order = links.order.as_slice();
+    let own = own_places(alloc, classes, members, superclasses.len(), sig)?;
+    let up = along(alloc, superclasses, order, own.as_slice())?;
+    let deep = along(alloc, interfaces, order, own.as_slice())?;
+    let across = next(alloc, interfaces, deep.as_slice())?;
+    let aside = along(alloc, superclasses, order, across.as_slice())?;
+    Ok(either(up, aside.as_slice()))
 }
 
-/// The method that a call of the signature on the class comes to. The chains are the numbers of the superclasses of each
-/// class, and the links those of the interfaces above it.
+// The number of the method that stands there.
+fn number_at(members: &Members, place: Option<Place>) -> Option<MethodId>
+    requires { (x : Place) → place ≡ Some x → HasPlace members.now x }
+    ensures none { place ≡ None → result ≡ None }
+    ensures some { (x : Place) → place ≡ Some x → IsNumberAt members.now x result }
+{
+    match place {
+        Some(place) => members.number(place),
+        None => None,
+    }
+}
+
+/// For each name the method that a call of the signature on its class comes to.
+pub fn resolved(
+    alloc: Global,
+    classes: &[Class],
+    members: &Members,
+    links: &Links,
+    sig: &Sig,
+) -> Result<Vec<Option<MethodId>>, AllocError>
+    requires formed { All IsWellFormed classes.now }
+    requires table { IsTable classes.now }
+    requires members { AreMembers classes.now members.now }
+    requires links { HasLinks classes.now links.now }
+    ensures count { IfOk result (λ v. length v.items ≡ length (class_names classes.now)) }
+    ensures exact { IfOk result (λ v. (class : ClassId) (n : MethodId) → At v.items class.0 (Some n) ↔ ((name : List ℕ) × At (class_names classes.now) class.0 name × Resolves classes.now name sig.now n)) }
+{
+    let places = found(alloc, classes, members, links, sig)?;
+    let mut methods = Vec::new(alloc);
+    for place in places.as_slice() {
+        methods.push(number_at(members, *place))?;
+    }
+    Ok(methods)
+}
+
+/// The method that a call of the signature on the class comes to.
 pub fn resolve(
+    alloc: Global,
     classes: &[Class],
     members: &Members,
-    chains: &[Seq<u32>],
-    links: &[Seq<u32>],
+    links: &Links,
     class: ClassId,
     sig: &Sig,
-) -> Option<MethodId>
+) -> Result<Option<MethodId>, AllocError>
     requires formed { All IsWellFormed classes.now }
     requires table { IsTable classes.now }
     requires members { AreMembers classes.now members.now }
-    requires chains { IsLink classes.now superclass chains.now }
-    requires links { IsLink classes.now interfaces links.now }
-    ensures { (n : MethodId) → (result ≡ Some n) ↔ ((name : List ℕ) × At (class_names classes.now) class.0 name × Resolves classes.now name sig.now n) }
+    requires links { HasLinks classes.now links.now }
+    ensures { IfOk result (λ found. (n : MethodId) → (found ≡ Some n) ↔ ((name : List ℕ) × At (class_names classes.now) class.0 name × Resolves classes.now name sig.now n)) }
 {
     let number = class.0 as usize;
-    if chains.len() <= number {
-        return None;
+    if links.headings.len() <= number {
+        return Ok(None);
     }
-    let Some(place) = search(classes, members, chains, links, number, sig) else {
-        return None;
-    };
-    members.number(place)
+    if let Some(place) = callable(classes, members, number, sig) {
+        return Ok(members.number(place));
+    }
+    let methods = resolved(alloc, classes, members, links, sig)?;
+    Ok(methods[number])
 }

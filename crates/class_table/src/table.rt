@@ -1,27 +1,26 @@
-// The table of classes: its names, links, methods and lists of concrete classes stand below, and the call graph above.
-ghost use Rattle.std.specs.Prelude.{◌≡◌, ◌↔◌, ◌<◌, ℕ, List, length, map, All, Contains, IfOk, IfErr, OnOk, IfSome, IfNone, IsTrue, Some, None};
-ghost use Rattle.std.specs.List.Sorted.{IsStrictlyIncreasing};
-ghost use Rattle.clean_base.specs.Lists.{At, IsDistinct};
+// The table of classes: its names, graphs and methods stand below, and the call graph above.
+ghost use Rattle.std.specs.Prelude.{◌≡◌, ◌↔◌, ◌<◌, ℕ, List, true, length, All, IfOk, IfErr, OnOk, IfSome, IfNone, IsTrue, Some, None};
+ghost use Rattle.clean_base.specs.Lists.{At};
 ghost use Rattle.clean_base.specs.declared.fault.InputFault.{InputFault};
 ghost use Rattle.clean_base.specs.declared.ids.ClassId.{ClassId};
 ghost use Rattle.clean_base.specs.declared.ids.MethodId.{MethodId};
 ghost use Rattle.jimple_tree.specs.WellFormed.{IsWellFormed};
 ghost use Rattle.jimple_tree.specs.declared.tree.Class.{Class};
 ghost use Rattle.jimple_tree.specs.declared.tree.Method.{Method};
-ghost use Rattle.reach_rows.specs.Reaches.{Follows};
-ghost use Rattle.class_table.specs.Concrete.{IsConcreteSubtype};
+ghost use Rattle.class_table.specs.Concrete.{IsConcrete};
 ghost use Rattle.class_table.specs.Faults.{IsFault, IsOnly, IsTable, Refused};
-ghost use Rattle.class_table.specs.Hierarchy.{class_names, given, Extends, IsSubtype};
+ghost use Rattle.class_table.specs.Hierarchy.{class_names, given, IsSubtype};
 ghost use Rattle.class_table.specs.Links.{name_at};
 ghost use Rattle.class_table.specs.Methods.{all_methods, IsDeclared, IsNumber};
 ghost use Rattle.class_table.specs.Resolving.{Resolves};
 
-use crate::concrete::{ClassIds, concretes};
 use crate::limits::{has_few_methods, has_few_stmts};
 use crate::links::Links;
+use crate::marks::{above, below};
 use crate::members::{Members, find_method, method, owner};
+use crate::modifiers::is_abstract;
 use crate::names::{number_of, numbered};
-use crate::resolve::resolve;
+use crate::resolve::{resolve, resolved};
 use clean_base::{ClassId, InputFault, MethodId, Name, Stop};
 use indexmap::IndexSet;
 use jimple_tree::{Class, Method, Sig};
@@ -35,8 +34,6 @@ pub struct ClassTable {
     names: IndexSet<Name>,
     links: Links,
     members: Members,
-    // For each name the concrete classes that have it or stand below it.
-    concretes: Vec<ClassIds>,
 }
 
 impl Model for ClassTable {
@@ -48,7 +45,7 @@ impl Model for ClassTable {
 
     ghost view = { λ t. t.classes.items };
 
-    ghost invariant = { λ t. IsKept t.classes.items t.names.keys t.links t.members t.concretes.items };
+    ghost invariant = { λ t. IsKept t.classes.items t.names.keys t.links t.members };
 }
 
 impl ClassTable {
@@ -70,17 +67,11 @@ impl ClassTable {
             Ok(members) => members,
             Err(AllocError) => return Err(Stop::OutOfMemory),
         };
-        let above = links.above.as_slice();
-        let concretes = match concretes(alloc, classes.as_slice(), above) {
-            Ok(concretes) => concretes,
-            Err(AllocError) => return Err(Stop::OutOfMemory),
-        };
         Ok(ClassTable {
             classes,
             names,
             links,
             members,
-            concretes,
         })
     }
 
@@ -140,38 +131,49 @@ impl ClassTable {
         self.classes.get(class.0 as usize)
     }
 
+    /// For each number of a name whether it is the class, or stands above it along headings.
+    pub fn supertypes(&self, alloc: Global, class: ClassId) -> Result<Vec<bool>, AllocError>
+        requires { class.0 < length (class_names self.now) }
+        ensures count { IfOk result (λ v. length v.items ≡ length (class_names self.now)) }
+        ensures exact { IfOk result (λ v. (name : ClassId) → At v.items name.0 true ↔ IsSubtype self.now class name) }
+    {
+        let headings = self.links.headings.as_slice();
+        above(alloc, headings, self.links.order.as_slice(), class.0)
+    }
+
+    /// For each number of a name whether it is the class, or stands below it along headings.
+    pub fn subtypes(&self, alloc: Global, class: ClassId) -> Result<Vec<bool>, AllocError>
+        requires { class.0 < length (class_names self.now) }
+        ensures count { IfOk result (λ v. length v.items ≡ length (class_names self.now)) }
+        ensures exact { IfOk result (λ v. (name : ClassId) → At v.items name.0 true ↔ IsSubtype self.now name class) }
+    {
+        let headings = self.links.headings.as_slice();
+        below(alloc, headings, self.links.order.as_slice(), class.0)
+    }
+
     /// Whether the second class is the first, or stands above it along headings.
-    pub fn subtype(&self, a: ClassId, b: ClassId) -> bool
-        ensures { IsTrue result ↔ IsSubtype self.now a b }
+    pub fn subtype(&self, alloc: Global, a: ClassId, b: ClassId) -> Result<bool, AllocError>
+        ensures { IfOk result (λ is. IsTrue is ↔ IsSubtype self.now a b) }
     {
         if a == b {
-            return true;
+            return Ok(true);
         }
-        match self.links.above.get(a.0 as usize) {
-            Some(above) => above.as_slice().contains(&b.0),
+        if a.0 >= self.classes() || b.0 >= self.classes() {
+            return Ok(false);
+        }
+        let marks = self.supertypes(alloc, a)?;
+        Ok(marks[b.0 as usize])
+    }
+
+    /// Whether the name is that of a concrete class.
+    pub fn is_concrete(&self, class: ClassId) -> bool
+        requires { class.0 < length (class_names self.now) }
+        ensures { IsTrue result ↔ IsConcrete self.now (name_at self.now class.0) }
+    {
+        match self.class(class) {
+            Some(class) => !class.is_interface && !is_abstract(class.modifiers.as_slice()),
             None => false,
         }
-    }
-
-    /// The numbers of the names that stand above the class, each once.
-    pub fn above(&self, class: ClassId) -> &[u32]
-        requires { class.0 < length (class_names self.now) }
-        ensures within { All (λ (i : ℕ). i < length (class_names self.now)) result.now }
-        ensures distinct { IsDistinct result.now }
-        ensures exact { (name : List ℕ) → Follows (Extends self.now) (name_at self.now class.0) name ↔ ((i : ℕ) × Contains result.now i × (name_at self.now i ≡ name)) }
-    {
-        let above = self.links.above.as_slice();
-        above[class.0 as usize].as_slice()
-    }
-
-    /// The numbers of the concrete classes that are the class or stand below it, in order.
-    pub fn concrete(&self, class: ClassId) -> &[ClassId]
-        requires { class.0 < length (class_names self.now) }
-        ensures ascending { IsStrictlyIncreasing (map (λ (c : ClassId). c.0) result.now) }
-        ensures exact { (sub : ClassId) → Contains result.now sub ↔ IsConcreteSubtype self.now sub (name_at self.now class.0) }
-    {
-        let concretes = self.concretes.as_slice();
-        concretes[class.0 as usize].as_slice()
     }
 
     /// How many methods have a body.
@@ -204,19 +206,25 @@ impl ClassTable {
         owner(self.classes.as_slice(), &self.members, m)
     }
 
-    /// The method that a call of the signature on the class comes to.
-    pub fn resolve(&self, class: ClassId, sig: &Sig) -> Option<MethodId>
-        ensures { (n : MethodId) → (result ≡ Some n) ↔ ((name : List ℕ) × At (class_names self.now) class.0 name × Resolves self.now name sig.now n) }
+    /// For each number of a name the method that a call of the signature on its class comes to.
+    pub fn resolved(&self, alloc: Global, sig: &Sig) -> Result<Vec<Option<MethodId>>, AllocError>
+        ensures count { IfOk result (λ v. length v.items ≡ length (class_names self.now)) }
+        ensures exact { IfOk result (λ v. (class : ClassId) (n : MethodId) → At v.items class.0 (Some n) ↔ ((name : List ℕ) × At (class_names self.now) class.0 name × Resolves self.now name sig.now n)) }
     {
-        let chains = self.links.chains.as_slice();
-        let interfaces = self.links.interfaces.as_slice();
-        resolve(
-            self.classes.as_slice(),
-            &self.members,
-            chains,
-            interfaces,
-            class,
-            sig,
-        )
+        let classes = self.classes.as_slice();
+        resolved(alloc, classes, &self.members, &self.links, sig)
+    }
+
+    /// The method that a call of the signature on the class comes to.
+    pub fn resolve(
+        &self,
+        alloc: Global,
+        class: ClassId,
+        sig: &Sig,
+    ) -> Result<Option<MethodId>, AllocError>
+        ensures { IfOk result (λ found. (n : MethodId) → (found ≡ Some n) ↔ ((name : List ℕ) × At (class_names self.now) class.0 name × Resolves self.now name sig.now n)) }
+    {
+        let classes = self.classes.as_slice();
+        resolve(alloc, classes, &self.members, &self.links, class, sig)
     }
 }

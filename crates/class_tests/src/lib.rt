@@ -2,5 +2,4 @@
 // out by hand. It holds nothing else.
 #![tactic(auto)]
 
-#[cfg(test)]
-mod tests;
+pub mod tests;

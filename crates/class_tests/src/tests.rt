@@ -1,10 +1,10 @@
 // What no clause says, and each call that takes memory, once with enough of it.
-mod below;
-mod calls;
-mod classes;
-mod closure;
-mod graphs;
-mod order;
-mod programs;
-mod signatures;
-mod texts;
+pub mod calls;
+pub mod classes;
+pub mod closure;
+pub mod graphs;
+pub mod order;
+pub mod programs;
+pub mod signatures;
+pub mod statements;
+pub mod texts;

@@ -1,5 +1,5 @@
 // What the program reads from and writes to, with faults that are counted.
-ghost use Rattle.std.specs.Prelude.{◌≡◌, ◌≤◌, ◌<◌, ◌+◌, ◌↔◌, ◌++◌, ◌-◌, List, ℕ, Option, length, IfOk, IfSome, OnErr};
+ghost use Rattle.std.specs.Prelude.{◌≡◌, ◌≤◌, ◌<◌, ◌+◌, ◌-◌, List, ℕ, Option, length, IfOk, IfSome, OnErr};
 ghost use Rattle.clean_base.specs.Device.{Rose, Reads, AppendsFirst, TookNone, count_of};
 
 /// A device has failed.

@@ -1,5 +1,4 @@
 // Dense numbers for the parts of a program.
-ghost use Rattle.std.specs.Prelude.{◌≡◌, ◌<◌, ◌≤◌};
 ghost use Rattle.std.proofs.Common.{rules};
 
 use crate::Plain;

@@ -1,5 +1,5 @@
 // Files and sinks in memory, whose contents contracts see.
-ghost use Rattle.std.specs.Prelude.{◌≡◌, ◌≤◌, ◌<◌, ◌+◌, ◌-◌, ◌^◌, ◌↔◌, ◌++◌, List, ℕ, [], length, min, IfOk, IfSome, IfNone, IsOk, IsErr, OnErr, OnOk, Some, None, vec_len, vec_capacity};
+ghost use Rattle.std.specs.Prelude.{◌≡◌, ◌≤◌, ◌<◌, ◌+◌, ◌-◌, ◌^◌, ◌↔◌, List, ℕ, [], length, min, IfOk, IfSome, IfNone, IsOk, IsErr, OnErr, OnOk, Some, None, vec_len, vec_capacity};
 ghost use Rattle.clean_base.specs.Memory.{held_by, held_or_empty};
 ghost use Rattle.clean_base.specs.Device.{Rose, Reads, AppendsFirst, TookNone, count_of};
 

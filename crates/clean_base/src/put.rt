@@ -1,5 +1,5 @@
 // Writes a text whole.
-ghost use Rattle.std.specs.Prelude.{◌≡◌, ◌≤◌, ◌<◌, ◌++◌, length, IfErr, OnOk};
+ghost use Rattle.std.specs.Prelude.{◌≤◌, ◌<◌, length, IfErr, OnOk};
 ghost use Rattle.clean_base.specs.Device.{Rose, AppendsFirst};
 
 use crate::Sink;

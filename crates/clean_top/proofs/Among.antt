@@ -15,6 +15,8 @@ use Rattle.jimple_lex.specs.Faults.{IsLexical, at_byte, at_open}
 use Rattle.jimple_lex.specs.declared.token.Token.{Token}
 use Rattle.jimple_text.specs.Reads.{IsFault, Faults, syntax, unsupported, too_many, double_name, unknown_local, unknown_label}
 use Rattle.class_table.specs.Faults.{IsFault as IsClassFault, classes, double, cycle, methods, stmts}
+use Rattle.field_table.specs.Numbers.{IsFieldFault, fields}
+use Rattle.app_program.specs.Faults.{IsFault as IsProgramFault, missing, fields as too_many_fields}
 use Rattle.jimple_tree.specs.declared.tree.Class.{Class}
 use Rattle.jimple_tree.specs.declared.tree.Sig.{Sig}
 use Rattle.clean_top.specs.Meaning.{classes_in, classes_of, graphed, serially, work}
@@ -79,6 +81,14 @@ table_among n (cycle few names is) = tt
 table_among n (methods few names acyclic many) = tt
 table_among n (stmts few names acyclic less many) = tt
 
+-- nor does one of a program
+field_among : (n : ℕ) {cs : List Class} {f : InputFault} → IsFieldFault cs f → IsAmong n f
+field_among n (fields many) = tt
+
+program_among : (n : ℕ) {cs : List Class} {entry : Sig} {f : InputFault} → IsProgramFault cs entry f → IsAmong n f
+program_among n (missing none) = tt
+program_among n (too_many_fields m declared f is) = field_among n is
+
 module _ (n : ℕ) (some : 0 < n) where
   classes_among : (text : Text) → text.file < n → (r : Refusal) → (classes_of text).refuses r → IsRefusalAmong n r
   classes_among text below r refuses = subst (IsRefusalAmong n) (sym refuses.2) (fault_among n text.file text.bytes below refuses.0 refuses.1)
@@ -96,10 +106,10 @@ module _ (n : ℕ) (some : 0 < n) where
   serially_among entry texts of =
       let P = IsRefusalAmong n in
       refuses_both P _ (each_among texts.classes of.classes)
-      (λ cs read. refuses_both P _ (λ r why. subst P (sym why.1) some)
-      (λ c is. refuses_both P _ (λ r why. subst P (sym why.1) (first_below texts.lists of.lists))
-      (λ ls are. refuses_both P _ (λ r why. subst P (sym why.1) tt)
-      (λ p made r over. subst P (sym over.1) tt))))
+      (λ cs read. refuses_both P _ (λ r why. subst P (sym why.1) (first_below texts.lists of.lists))
+      (λ ls are. refuses_both P _ (λ r why. subst P (sym why.2) (table_among n why.1))
+      (λ table has. refuses_both P _ (λ r why. subst P (sym why.2) (program_among n why.1))
+      (λ app made r over. subst P (sym over.1) tt))))
 
   graphed_among : (entry : Sig) (texts : Texts) → AreOf n texts → (r : Refusal) → (graphed entry texts).refuses r → IsRefusalAmong n r
   graphed_among entry texts of =

@@ -73,24 +73,23 @@ module _ (words : List (List ℕ)) where
     unspelled none other asks = none asks.entry (spelled other asks)
 
     module _ (entry : Sig) (only : (s : Sig) → Spells s signature → s ≡ entry) where
-      does : (other : Command) (asks : Asks words other) → IsTask command entry (length classes) other.task
+      does : (other : Command) (asks : Asks words other) → IsTask command entry other.task
       does other asks =
           let places = same _ _ _ _ asks.form in
-          let from = subst (λ (s : Sig). IsTask asks.command s (length other.names.classes) other.task) (only asks.entry (spelled other asks)) asks.is in
-          let named = subst (λ (c : List ℕ). IsTask c entry (length other.names.classes) other.task) places.of_command from in
-          subst (λ (cs : List (List ℕ)). IsTask command entry (length cs) other.task) places.of_classes named
+          let from = subst (λ (s : Sig). IsTask asks.command s other.task) (only asks.entry (spelled other asks)) asks.is in
+          subst (λ (c : List ℕ). IsTask c entry other.task) places.of_command from
 
-      -- no command has this name and so many class files
-      pub untasked : ((task : Task) → IsTask command entry (length classes) task → ⊥) → IsUsage words
+      -- no command has this name
+      pub untasked : ((task : Task) → IsTask command entry task → ⊥) → IsUsage words
       untasked none other asks = none other.task (does other asks)
 
-      one_task : (task other : Task) → IsTask command entry (length classes) task → IsTask command entry (length classes) other → other ≡ task
-      one_task (Serial e) (Serial f) is also = ap Serial (also.2 ∙ sym is.2)
+      one_task : (task other : Task) → IsTask command entry task → IsTask command entry other → other ≡ task
+      one_task (Serial e) (Serial f) is also = ap Serial (also.1 ∙ sym is.1)
       one_task (Graph e) (Graph f) is also = ap Graph (also.1 ∙ sym is.1)
       one_task (Serial e) (Graph f) is also = absurd (let clash : codes "serial" ≡ codes "graph" = sym is.0 ∙ also.0 in cc)
       one_task (Graph e) (Serial f) is also = absurd (let clash : codes "graph" ≡ codes "serial" = sym is.0 ∙ also.0 in cc)
 
-      module _ (task : Task) (names : Named) (is : IsTask command entry (length classes) task) (are : names ≡ record { classes = classes; lists = list ∷ [] }) where
+      module _ (task : Task) (names : Named) (is : IsTask command entry task) (are : names ≡ record { classes = classes; lists = list ∷ [] }) where
         abbrev asked : Command
         asked = record { names = names; task = task }
 
@@ -104,7 +103,7 @@ module _ (words : List (List ℕ)) where
               form = subst (HasForm words command signature list) (sym of_classes) form;
               entry = entry;
               spelled = spells;
-              is = subst (λ (cs : List (List ℕ)). IsTask command entry (length cs) task) (sym of_classes) is;
+              is = is;
               lists = ap (λ (n : Named). n.lists) are;
             }
 

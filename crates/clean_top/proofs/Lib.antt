@@ -1,10 +1,6 @@
 pub mod Among
 pub mod Appended
 pub mod Asked
-pub mod Counted
-pub mod Numbered
-pub mod Ordered
-pub mod Pairs
 pub mod ReadSo
 pub mod Served
 pub mod Worked

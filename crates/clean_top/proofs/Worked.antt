@@ -1,20 +1,22 @@
 -- The layers below come out as the stages of a command do.
-use Rattle.std.proofs.Common.{◌≡◌, ◌↔◌, List, [], ◌∷◌, Option, Some, None, Result, Ok, Err, IfOk, IfErr, refl, sym, ◌∙◌, ap, arith}
+use Rattle.std.proofs.Common.{◌≡◌, ◌↔◌, ◌+◌, ℕ, Bool, List, All, get_or, Option, Some, None, Ok, Err, refl, sym, ◌∙◌, ap, subst, arith}
+use Rattle.std.proofs.lemmas.List.Elements.{Contains-get_or}
 use Rattle.clean_base.specs.declared.fault.InputFault.{InputFault}
-use Rattle.clean_base.specs.declared.fault.InputFault.TheVariants.{NotYet, EntryMissing}
+use Rattle.clean_base.specs.declared.fault.InputFault.TheVariants.{EntryMissing}
 use Rattle.clean_base.specs.declared.fault.Stop.{Stop}
 use Rattle.clean_base.specs.declared.fault.Stop.TheVariants as stops
 use Rattle.clean_base.specs.declared.ids.MethodId.{MethodId}
 use Rattle.clean_stage.proofs.Stages.{gives_only, refuses_only, out_of_memory}
 use Rattle.clean_stage.specs.Stage.{Comes, fault, of_stop}
-use Rattle.clean_stage.specs.declared.halt.Halt.{Halt}
-use Rattle.clean_stage.specs.declared.halt.Halt.TheVariants.{Refused, OutOfMemory}
+use Rattle.clean_stage.specs.declared.halt.Halt.TheVariants.{Refused}
 use Rattle.clean_stage.specs.declared.halt.Refusal.TheVariants.{Fault, EdgeLimit}
-use Rattle.ifds_model.specs.Runs.{IsEdge}
-use Rattle.core_driver.specs.More.{no_count}
+use Rattle.ifds_model.specs.Runs.{IsEdge, IsLeak, Lists}
+use Rattle.ifds_model.specs.declared.node.Leak.{Leak}
+use Rattle.solver_core.specs.declared.answer.CommitStop.{CommitStop}
+use Rattle.solver_core.specs.declared.answer.CommitStop.TheVariants as commits
+use Rattle.core_driver.specs.Driven.{IsRefused}
+use Rattle.core_driver.specs.More.{HasMoreThan, no_count}
 use Rattle.jimple_text.specs.Settled.{IsRead, Refused as Unread}
-use Rattle.jimple_tree.specs.Bodies.{IsWithin}
-use Rattle.jimple_tree.specs.WellFormed.{IsWellFormed}
 use Rattle.jimple_tree.specs.declared.tree.Class.{Class}
 use Rattle.jimple_tree.specs.declared.tree.Sig.{Sig}
 use Rattle.source_sink.specs.Lists.{AreLines, Refuses as Unlisted}
@@ -23,11 +25,14 @@ use Rattle.class_table.specs.Faults.{IsFault as IsClassFault, IsOnly, Refused as
 use Rattle.class_table.specs.Methods.{IsDeclared}
 use Rattle.call_graph.specs.Graphs.{IsCallGraph}
 use Rattle.call_graph.specs.declared.edges.CallGraph.{CallGraph}
-use Rattle.app_program.specs.Program.{IsProgram, NoProgram}
-use Rattle.app_program.specs.declared.program.Program.{Program}
-use Rattle.clean_top.proofs.Ordered.{reports_once}
-use Rattle.clean_top.specs.Meaning.{classes_of, solved, lines_of, entered, reported, tabled, rooted, called, IsReport, IsOver, Unreported, machine_of, edge_room}
-use Rattle.clean_top.specs.Solved.{IsSolved}
+use Rattle.flow_rules.specs.Code.{Code}
+use Rattle.flow_rules.specs.Machine.{machine}
+use Rattle.flow_rules.specs.Own.{OwnLeak}
+use Rattle.program_code.specs.App.{App}
+use Rattle.app_program.specs.Faults.{IsFault as IsProgramFault, IsOnly as IsOnlyOfProgram, Refused as Unassembled}
+use Rattle.app_program.specs.Program.{IsProgram}
+use Rattle.leak_report.specs.Report.{Reports}
+use Rattle.clean_top.specs.Meaning.{classes_of, lines_of, assembled, reported, tabled, rooted, called, IsReport, IsOver, machine_of, of_commit, edge_room}
 use Rattle.clean_top.specs.declared.output.Output.{Output}
 use Rattle.clean_top.specs.declared.read.Text.{Text}
 
@@ -46,42 +51,39 @@ module _ (text : Text) where
   lines_stop (stops.Fault f) why = refuses_only (Fault f) (why.1, ap Fault why.0) (λ r refuses. refuses.1 ∙ sym (ap Fault why.0)) why.1
   lines_stop stops.OutOfMemory why = out_of_memory _
 
-module _ (cs : List Class) where
-  pub solved_comes : (c : Class) → cs ≡ c ∷ [] → IsSolved c → Comes (solved cs) (Ok c)
-  solved_comes c one is = gives_only c (one, is) (λ d gives. let e : d ∷ [] ≡ c ∷ [] = sym gives.0 ∙ one in cc) (λ r refuses. refuses.0 c one is)
+module _ (table : List Class) (ls : List Line) (entry : Sig) where
+  pub program_comes : (app : App) → IsProgram table ls entry app → ((other : App) → IsProgram table ls entry other → other ≡ app) → ((f : InputFault) → IsProgramFault table entry f → ⊥) → Comes (assembled table ls entry) (Ok app)
+  program_comes app is only none = gives_only app (none, is) (λ other gives. only other gives.1) (λ r refuses. none refuses.0 refuses.1)
 
-  pub not_solved : ((c : Class) → cs ≡ c ∷ [] → IsSolved c → ⊥) → Comes (solved cs) (Err (fault (NotYet 0)))
-  not_solved none = refuses_only (Fault (NotYet 0)) (none, refl) (λ r refuses. refuses.1) (λ c gives. none c gives.0 gives.1)
+  pub program_stops : (stop : Stop) → Unassembled table entry stop → IsOnlyOfProgram table entry stop → Comes (assembled table ls entry) (Err (of_stop stop))
+  program_stops (stops.Fault f) is only = refuses_only (Fault f) (f, is, refl) (λ r refuses. refuses.2 ∙ ap Fault (only refuses.0 refuses.1)) (λ app gives. gives.0 f is)
+  program_stops stops.OutOfMemory is only = out_of_memory _
 
-pub is_within : (c : Class) → IsWellFormed c → IsSolved c → IsWithin c
-is_within c formed is = record { well_formed = formed; methods = is.methods; statements = is.statements }
+-- the leaks that are listed name only the program's own
+pub own_listed : (code : Code) (k : ℕ) (marks : List Leak) → Lists (IsLeak (machine k code)) marks → ((l : Leak) → IsLeak (machine k code) l → OwnLeak code l) → All (OwnLeak code) marks
+own_listed code k marks listed own i d below = own (get_or marks i d) (listed.sound (get_or marks i d) (Contains-get_or marks i d below))
 
-module _ (class : Class) (ls : List Line) (entry : Sig) where
-  pub program_comes : (p : Program) → IsProgram class ls entry p → ((q : Program) → IsProgram class ls entry q → q ≡ p) → Comes (entered class ls entry) (Ok p)
-  program_comes p is only = gives_only p is only (λ r refuses. refuses.0 p.root is.root)
-
-  pub program_stops : (stop : Stop) → NoProgram class entry stop → Comes (entered class ls entry) (Err (of_stop stop))
-  program_stops (stops.Fault f) none = refuses_only (Fault f) (none.0, ap Fault none.1) (λ r refuses. refuses.1 ∙ sym (ap Fault none.1)) (λ p is. none.0 p.root is.root)
-  program_stops stops.OutOfMemory none = out_of_memory _
-
-module _ (class : Class) (p : Program) where
+module _ (app : App) where
   -- a program isn't both within the room for path edges and past it
-  not_both : IsOver p → (o : Output) → IsReport class p o → ⊥
-  not_both more o is = omega (arith, no_count (IsEdge (machine_of p)) edge_room more is.edges is.reports.counted, is.within)
+  not_both : IsOver app → (o : Output) → IsReport app o → ⊥
+  not_both more o is = omega (arith, no_count (IsEdge (machine_of app)) edge_room more is.edges is.reports.counted, is.within)
 
-  one_report : (o q : Output) → IsReport class p o → IsReport class p q → q ≡ o
-  one_report o q is again =
-      let one = reports_once (machine_of p) class p.code is.edges again.edges o.text q.text o.leaky q.leaky is.reports again.reports in
-      let texts = one.0 in
-      let marks = one.1 in
-      λ i. record { text = texts i; leaky = marks i }
+  -- no other report is one
+  abbrev pub IsOneReport : Output → Type 0
+  IsOneReport o = (n : ℕ) (text : List ℕ) (leaky : Bool) → Reports (machine_of app) app n text leaky → (text ≡ o.text) × (leaky ≡ o.leaky)
 
-  pub reported_comes : (r : Result Output Halt) → IfOk r (IsReport class p) → IfErr r (Unreported p) → Comes (reported class p) r
-  reported_comes (Ok o) is why = gives_only o is (λ q again. one_report o q is again) (λ r refuses. not_both refuses.0 o is)
-  reported_comes (Err (Refused (Fault f))) is why = absurd why
-  reported_comes (Err (Refused (EdgeLimit found))) is why =
-      refuses_only (EdgeLimit found) (why.0, ap EdgeLimit why.1) (λ r refuses. refuses.1 ∙ sym (ap EdgeLimit why.1)) (λ o report. not_both why.0 o report)
-  reported_comes (Err OutOfMemory) is why = out_of_memory _
+  pub report_comes : (o : Output) → IsReport app o → IsOneReport o → Comes (reported app) (Ok o)
+  report_comes o is only =
+      gives_only o is (λ q again. let one = only again.edges q.text q.leaky again.reports in let texts = one.0 in let marks = one.1 in λ i. record { text = texts i; leaky = marks i })
+      (λ r refuses. not_both refuses.0 o is)
+
+  -- why a solver stops is why there is no report
+  pub commit_stops : (limit : ℕ) → limit ≡ edge_room → (stop : CommitStop) → IsRefused (machine_of app) limit stop → Comes (reported app) (Err (of_commit stop))
+  commit_stops limit is (commits.EdgeLimit found) refused =
+      let over : IsOver app = subst (HasMoreThan (IsEdge (machine_of app))) is refused.0 in
+      let one : found ≡ edge_room + 1 = refused.2 ∙ ap (λ (n : ℕ). n + 1) is in
+      refuses_only (EdgeLimit found) (over, ap EdgeLimit one) (λ r refuses. refuses.1 ∙ sym (ap EdgeLimit one)) (λ o report. not_both over o report)
+  commit_stops limit is commits.OutOfMemory refused = out_of_memory _
 
 module _ (cs : List Class) where
   pub table_comes : ((f : InputFault) → IsClassFault cs f → ⊥) → Comes (tabled cs) (Ok cs)

@@ -1,9 +1,6 @@
 pub mod Answer
 pub mod Graph
 pub mod Meaning
-pub mod Printed
 pub mod Reading
-pub mod Report
-pub mod Solved
 pub mod Status
 pub mod Words

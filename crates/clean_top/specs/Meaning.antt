@@ -1,5 +1,5 @@
 -- What a command means: a refusal or an output (docs/COMMANDS.md, "Refusals" and "Outputs").
-use Rattle.std.specs.Prelude.{◌≡◌, ◌≤◌, ◌+◌, ◌-◌, ◌^◌, ℕ, List, [], ◌∷◌, flat_map}
+use Rattle.std.specs.Prelude.{◌≡◌, ◌≤◌, ◌+◌, ◌-◌, ◌^◌, ℕ, List, flat_map}
 use Rattle.clean_base.specs.declared.fault.InputFault.{InputFault}
 use Rattle.clean_base.specs.declared.fault.InputFault.TheVariants.{NotYet, EntryMissing}
 use Rattle.clean_base.specs.declared.ids.MethodId.{MethodId}
@@ -13,8 +13,6 @@ use Rattle.ifds_model.specs.declared.node.Leak.{Leak}
 use Rattle.core_driver.specs.More.{HasMoreThan}
 use Rattle.solver_core.specs.declared.answer.CommitStop.{CommitStop}
 use Rattle.solver_core.specs.declared.answer.CommitStop.TheVariants as commits
-use Rattle.taint_problem.specs.Machine.{machine}
-use Rattle.taint_problem.specs.declared.fact.Fact.{Fact}
 use Rattle.jimple_text.specs.Reads.{Reads, IsFault}
 use Rattle.jimple_tree.specs.declared.tree.Class.{Class}
 use Rattle.jimple_tree.specs.declared.tree.Sig.{Sig}
@@ -24,13 +22,14 @@ use Rattle.class_table.specs.Faults.{IsFault as IsClassFault}
 use Rattle.class_table.specs.Methods.{IsDeclared}
 use Rattle.call_graph.specs.Graphs.{IsCallGraph}
 use Rattle.call_graph.specs.declared.edges.CallGraph.{CallGraph}
-use Rattle.app_program.specs.Calls.{IsMethod}
+use Rattle.access_path.specs.declared.fact.Fact.{Fact}
+use Rattle.flow_rules.specs.Machine.{machine}
+use Rattle.program_code.specs.App.{App}
+use Rattle.app_program.specs.Faults.{IsFault as IsProgramFault}
 use Rattle.app_program.specs.Program.{IsProgram}
-use Rattle.app_program.specs.declared.program.Program.{Program}
+use Rattle.leak_report.specs.Report.{Reports}
 use Rattle.clean_top.specs.Graph.{drawn}
 use Rattle.clean_top.specs.Reading.{text_at, texts_in}
-use Rattle.clean_top.specs.Report.{Reports}
-use Rattle.clean_top.specs.Solved.{IsSolved}
 use Rattle.clean_top.specs.declared.output.Output.{Output}
 use Rattle.clean_top.specs.declared.read.Text.{Text}
 use Rattle.clean_top.specs.declared.read.Texts.{Texts}
@@ -41,6 +40,10 @@ use Rattle.clean_top.specs.declared.task.Task.TheVariants.{Serial, Graph}
 -- the most path edges
 abbrev pub edge_room : ℕ
 edge_room = 2 ^ 64 - 2
+
+-- a path keeps this many of its fields
+abbrev pub path_fields : ℕ
+path_fields = 5
 
 -- the classes of a class file
 abbrev pub classes_of : Text → Stage (List Class)
@@ -53,13 +56,6 @@ classes_of text = record {
 abbrev pub classes_in : List Text → Stage (List Class)
 classes_in texts = every classes_of texts >>= λ files. done (flat_map (λ (cs : List Class). cs) files)
 
--- one class, on which the solver works so far
-abbrev pub solved : List Class → Stage Class
-solved cs = record {
-  refuses = λ r. ((c : Class) → cs ≡ c ∷ [] → IsSolved c → ⊥) × (r ≡ Fault (NotYet 0));
-  gives = λ c. (cs ≡ c ∷ []) × IsSolved c;
-}
-
 -- a list has the built form
 abbrev pub lines_of : Text → Stage (List Line)
 lines_of text = record {
@@ -67,41 +63,26 @@ lines_of text = record {
   gives = λ ls. AreLines ls text.bytes;
 }
 
--- the entry names a method of the class
-abbrev pub entered : Class → List Line → Sig → Stage Program
-entered class ls entry = record {
-  refuses = λ r. ((n : MethodId) → IsMethod class entry n → ⊥) × (r ≡ Fault EntryMissing);
-  gives = λ p. IsProgram class ls entry p;
-}
-
--- the program as a stack machine
-abbrev pub machine_of : Program → Machine Fact Leak
-machine_of p = machine p.code p.root
+-- the program that is entered there, as a stack machine whose paths keep so many fields
+abbrev pub machine_of : App → Machine Fact Leak
+machine_of app = machine path_fields app.code
 
 -- the program has more path edges than there is room for
-abbrev pub IsOver : Program → Type 0
-IsOver p = HasMoreThan (IsEdge (machine_of p)) edge_room
+abbrev pub IsOver : App → Type 0
+IsOver app = HasMoreThan (IsEdge (machine_of app)) edge_room
 
 -- it has no more, and this is its report
-pub record IsReport (class : Class) (p : Program) (o : Output) : Type 0 where
+pub record IsReport (app : App) (o : Output) : Type 0 where
   pub edges : ℕ
   pub within : edges ≤ edge_room
-  pub reports : Reports (machine_of p) class p.code edges o.text o.leaky
+  pub reports : Reports (machine_of app) app edges o.text o.leaky
 
 -- the report of a program, or the limit that it passes
-abbrev pub reported : Class → Program → Stage Output
-reported class p = record {
-  refuses = λ r. IsOver p × (r ≡ EdgeLimit (edge_room + 1));
-  gives = λ o. IsReport class p o;
+abbrev pub reported : App → Stage Output
+reported app = record {
+  refuses = λ r. IsOver app × (r ≡ EdgeLimit (edge_room + 1));
+  gives = λ o. IsReport app o;
 }
-
-abbrev pub serially : Sig → Texts → Stage Output
-serially entry texts =
-    classes_in texts.classes >>= λ cs.
-    solved cs >>= λ c.
-    lines_of (text_at texts.lists 0) >>= λ ls.
-    entered c ls entry >>= λ p.
-    reported c p
 
 -- the classes have no fault, so they have a table
 abbrev pub tabled : List Class → Stage (List Class)
@@ -109,6 +90,21 @@ tabled cs = record {
   refuses = λ r. (f : InputFault) × IsClassFault cs f × (r ≡ Fault f);
   gives = λ table. ((f : InputFault) → IsClassFault cs f → ⊥) × (table ≡ cs);
 }
+
+-- they and the list have a program, entered at the method that the entry names
+abbrev pub assembled : List Class → List Line → Sig → Stage App
+assembled table ls entry = record {
+  refuses = λ r. (f : InputFault) × IsProgramFault table entry f × (r ≡ Fault f);
+  gives = λ app. ((f : InputFault) → IsProgramFault table entry f → ⊥) × IsProgram table ls entry app;
+}
+
+abbrev pub serially : Sig → Texts → Stage Output
+serially entry texts =
+    classes_in texts.classes >>= λ cs.
+    lines_of (text_at texts.lists 0) >>= λ ls.
+    tabled cs >>= λ table.
+    assembled table ls entry >>= λ app.
+    reported app
 
 -- the entry names a method of theirs
 abbrev pub rooted : List Class → Sig → Stage MethodId
@@ -143,9 +139,3 @@ means command files = texts_in command.names files >>= λ texts. work command.ta
 abbrev pub of_commit : CommitStop → Halt
 of_commit (commits.EdgeLimit found) = Refused (EdgeLimit found)
 of_commit commits.OutOfMemory = OutOfMemory
-
--- why a program has no report: it is too large, or memory ran out. The public contracts don't cite this.
-abbrev pub Unreported : Program → Halt → Type 0
-Unreported p (Refused (Fault f)) = ⊥
-Unreported p (Refused (EdgeLimit found)) = IsOver p × (found ≡ edge_room + 1)
-Unreported p OutOfMemory = Unit {0}

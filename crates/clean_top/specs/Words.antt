@@ -20,10 +20,10 @@ pub record HasForm (words : List (List ℕ)) (command signature list : List ℕ)
   pub some : 1 ≤ length classes
   pub few : length classes ≤ 4096
 
--- a command of this name with this entry does this to so many class files; a report is of one so far
-abbrev pub IsTask : List ℕ → Sig → ℕ → Task → Type 0
-IsTask command entry classes (Serial e) = (command ≡ codes "serial") × (classes ≡ 1) × (e ≡ entry)
-IsTask command entry classes (Graph e) = (command ≡ codes "graph") × (e ≡ entry)
+-- a command of this name with this entry does this
+abbrev pub IsTask : List ℕ → Sig → Task → Type 0
+IsTask command entry (Serial e) = (command ≡ codes "serial") × (e ≡ entry)
+IsTask command entry (Graph e) = (command ≡ codes "graph") × (e ≡ entry)
 
 -- the words ask for this with these files
 pub record AsksFor (words : List (List ℕ)) (task : Task) (names : Named) : Type 0 where
@@ -33,7 +33,7 @@ pub record AsksFor (words : List (List ℕ)) (task : Task) (names : Named) : Typ
   pub form : HasForm words command signature list names.classes
   pub entry : Sig
   pub spelled : Spells entry signature
-  pub is : IsTask command entry (length names.classes) task
+  pub is : IsTask command entry task
   pub lists : names.lists ≡ list ∷ []
 
 -- the words ask for this command

@@ -1,23 +1,13 @@
 // The text of a call graph: a line for each open call, and the number of methods.
 ghost use Rattle.std.specs.Prelude.{◌≡◌, ◌++◌, OnOk, IfOk, flat_map};
-ghost use Rattle.clean_top.specs.Graph.{method_text_at, call_text, drawn};
+ghost use Rattle.clean_top.specs.Graph.{call_text, drawn};
 
 use crate::output::Output;
-use crate::printed::{write_count, write_method, write_place};
 use call_graph::{CallEdge, CallGraph};
 use class_table::ClassTable;
-use clean_base::{MethodId, Seq};
+use clean_base::Seq;
+use leak_report::{write_count, write_method_at, write_place};
 use std::alloc::{AllocError, Global};
-
-// The text of the method with that number, where there is one.
-fn write_method_at(out: &mut Vec<u8>, table: &ClassTable, m: MethodId) -> Result<(), AllocError>
-    ensures { OnOk result (out.new.items ≡ out.old.items ++ method_text_at table.now m) }
-{
-    if m.0 >= table.methods() {
-        return Ok(());
-    }
-    write_method(out, table.name(table.owner(m)), table.method(m))
-}
 
 fn write_call(out: &mut Vec<u8>, table: &ClassTable, call: CallEdge) -> Result<(), AllocError>
     ensures { OnOk result (out.new.items ≡ out.old.items ++ call_text table.now call) }

@@ -1,5 +1,5 @@
 // The top call: the whole program over words, files and sinks. The reader of texts (`jimple_text`), lists
-// (`source_sink`), tables of classes (`class_table`), call graphs (`call_graph`), programs (`app_program`, `taint_problem`)
+// (`source_sink`), tables of classes (`class_table`), call graphs (`call_graph`), programs (`app_program`, `taint_problem`), reports (`leak_report`)
 // and the solver (`solver_core`, `core_driver`) stand below; `clean_cli` gives it the real files and streams. A command is
 // a chain of stages (`clean_stage`) on the texts of its files; a further one adds its words, its task and its stages.
 #![tactic(auto)]
@@ -9,11 +9,8 @@ mod complain;
 mod devices;
 mod graph;
 mod output;
-mod printed;
 mod read;
-mod report;
 mod serve;
-mod solved;
 mod status;
 mod task;
 #[cfg(test)]

@@ -21,6 +21,16 @@ const WORDS: [&str; 6] = [
     "A.jimple",
 ];
 
+const REPORT_OF_TWO: &[&str] = &[
+    "serial",
+    "--entry",
+    "<A: void m()>",
+    "--lists",
+    "L",
+    "A.jimple",
+    "B.jimple",
+];
+
 const GRAPH: &[&str] = &[
     "graph",
     "--entry",
@@ -196,6 +206,31 @@ fn reports(rt: HostRuntime) -> Result<(), Fail> {
             "public class A extends java.lang.Object { public static void m() { int i0; i0 = staticinvoke <S: int src()>(); lookupswitch(i0) { case 1: goto one; default: goto all; } one: i0 = 0; all: staticinvoke <S: void snk(int)>(i0); return; } }",
             "leak <A: void m()>#3 from <A: void m()>#0 at i0\nedges 9\ncontexts 1\n",
         ),
+        // A store into a field, read through another name of the object.
+        (
+            "public class A extends java.lang.Object { public int f; public static void m() { A a, b; int i0, i1; a = new A; b = a; i0 = staticinvoke <S: int src()>(); a.<A: int f> = i0; i1 = b.<A: int f>; staticinvoke <S: void snk(int)>(i1); return; } }",
+            "leak <A: void m()>#5 from <A: void m()>#2 at i1\nedges 27\ncontexts 1\n",
+        ),
+        // A store in a method that was called, found in its caller.
+        (
+            "public class A extends java.lang.Object { public int f; public static void m() { A a, b; int i1; a = new A; b = a; staticinvoke <A: void fill(A)>(a); i1 = b.<A: int f>; staticinvoke <S: void snk(int)>(i1); return; } public static void fill(A) { A p; int i0; p := @parameter0: A; i0 = staticinvoke <S: int src()>(); p.<A: int f> = i0; return; } }",
+            "leak <A: void m()>#4 from <A: void fill(A)>#1 at i1\nedges 44\ncontexts 3\n",
+        ),
+        // Elements of an array.
+        (
+            "public class A extends java.lang.Object { public static void m() { int[] a; int i0, i1; a = newarray (int)[2]; i0 = staticinvoke <S: int src()>(); a[0] = i0; i1 = a[1]; staticinvoke <S: void snk(int)>(i1); return; } }",
+            "leak <A: void m()>#4 from <A: void m()>#1 at i1\nedges 19\ncontexts 1\n",
+        ),
+        // A static field.
+        (
+            "public class A extends java.lang.Object { public static int s; public static void m() { int i0, i1; i0 = staticinvoke <S: int src()>(); <A: int s> = i0; i1 = <A: int s>; staticinvoke <S: void snk(int)>(i1); return; } }",
+            "leak <A: void m()>#3 from <A: void m()>#0 at i1\nedges 14\ncontexts 1\n",
+        ),
+        // An exception whose field is stored through another name.
+        (
+            "public class A extends java.lang.Object { public int f; public static void m() { A a, b; int i0, i1; a = new A; l1: throw a; l2: b := @caughtexception; i0 = staticinvoke <S: int src()>(); b.<A: int f> = i0; i1 = a.<A: int f>; staticinvoke <S: void snk(int)>(i1); return; catch java.lang.Throwable from l1 to l2 with l2; } }",
+            "leak <A: void m()>#6 from <A: void m()>#3 at i1\nedges 31\ncontexts 1\n",
+        ),
     ];
     for (class, out) in rows {
         let code = if out.starts_with("leak") { 1 } else { 0 };
@@ -211,21 +246,24 @@ fn reports(rt: HostRuntime) -> Result<(), Fail> {
 }
 
 #[test]
+fn report_of_two_files(rt: HostRuntime) -> Result<(), Fail> {
+    // A source of the class that is extended, in another file: Zero 3, i0 2.
+    let row = Row {
+        words: REPORT_OF_TWO,
+        class: "public class A extends java.lang.Object { public static void m() { int i0; i0 = staticinvoke <C: int src()>(); staticinvoke <S: void snk(int)>(i0); return; } }",
+        others: &[("B.jimple", "class C extends S { }")],
+        out: "leak <A: void m()>#1 from <A: void m()>#0 at i0\nedges 5\ncontexts 1\n",
+        code: 1,
+        ..PLAIN
+    };
+    expect(&rt, rt.alloc(), &row)?;
+    Ok(())
+}
+
+#[test]
 fn refusals(rt: HostRuntime) -> Result<(), Fail> {
     // The class file, the list, the entry, and the line on the error sink.
     let rows = [
-        (
-            "public class A extends java.lang.Object { public static void m() { <A: int f> = 0; return; } }",
-            LIST,
-            "<A: void m()>",
-            "clean: A.jimple: form not built yet\n",
-        ),
-        (
-            "public class A extends java.lang.Object { public static void m() { <A: int f> = 0; return; } }",
-            BAD_LIST,
-            "<A: void n()>",
-            "clean: A.jimple: form not built yet\n",
-        ),
         (
             "public class A extends java.lang.Object { public static void m() { return; } }",
             BAD_LIST,
@@ -296,7 +334,7 @@ fn refusals(rt: HostRuntime) -> Result<(), Fail> {
             "class A { } class A { }",
             LIST,
             "<A: void m()>",
-            "clean: A.jimple: form not built yet\n",
+            "clean: class A given twice\n",
         ),
         (
             "class A { void m(); }",
@@ -480,7 +518,7 @@ fn refused_graphs(rt: HostRuntime) -> Result<(), Fail> {
 
 #[test]
 fn words_of_no_form(rt: HostRuntime) -> Result<(), Fail> {
-    let shapes: [&[&str]; 8] = [
+    let shapes: [&[&str]; 7] = [
         &["serial"],
         &[
             "serial",
@@ -513,15 +551,6 @@ fn words_of_no_form(rt: HostRuntime) -> Result<(), Fail> {
             "--lists",
             "",
             "A.jimple",
-        ],
-        &[
-            "serial",
-            "--entry",
-            "<A: void m()>",
-            "--lists",
-            "L",
-            "A.jimple",
-            "B.jimple",
         ],
         &["graph", "--entry", "<A: void m()>", "--lists", "L"],
         &[

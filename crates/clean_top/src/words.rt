@@ -75,12 +75,12 @@ fn places_of(words: &[Word]) -> Option<Places<'_>>
     })
 }
 
-// The task of the command with that name on so many class files.
-fn task_of(command: &str, entry: Sig, classes: usize) -> Option<Task>
-    ensures some { IfSome result (IsTask command.now entry classes) }
-    ensures none { IfNone result ((task : Task) → IsTask command.now entry classes task → ⊥) }
+// The task of the command with that name.
+fn task_of(command: &str, entry: Sig) -> Option<Task>
+    ensures some { IfSome result (IsTask command.now entry) }
+    ensures none { IfNone result ((task : Task) → IsTask command.now entry task → ⊥) }
 {
-    if command == "serial" && classes == 1 {
+    if command == "serial" {
         return Some(Task::Serial { entry });
     }
     if command == "graph" {
@@ -123,7 +123,7 @@ pub fn parse(alloc: Global, words: &[Word]) -> Result<Option<Command>, AllocErro
     let Some(entry) = read_sig(alloc, places.signature.as_bytes())? else {
         return Ok(None);
     };
-    let Some(task) = task_of(places.command, entry, places.classes.len()) else {
+    let Some(task) = task_of(places.command, entry) else {
         return Ok(None);
     };
     let names = named(alloc, places.list, places.classes)?;

@@ -1,12 +1,9 @@
 // From the texts of a command's files to its output, stage by stage.
-ghost use Rattle.std.specs.Prelude.{◌≡◌, ◌<◌, ◌^◌, All, IfOk, IfErr, Ok, Err, length};
-ghost use Rattle.jimple_tree.specs.Bodies.{IsWithin};
+ghost use Rattle.std.specs.Prelude.{◌≡◌, ◌<◌, ◌^◌, All, IfOk, Ok, Err, length};
 ghost use Rattle.jimple_tree.specs.WellFormed.{IsWellFormed};
 ghost use Rattle.class_table.specs.Methods.{all_methods};
-ghost use Rattle.taint_problem.specs.Code.{IsWhole};
-ghost use Rattle.clean_base.specs.declared.fault.InputFault.TheVariants.{NotYet};
-ghost use Rattle.clean_stage.specs.Stage.{Comes, fault};
-ghost use Rattle.clean_top.specs.Meaning.{IsReport, Unreported, of_commit, called, classes_in, classes_of, graphed, lines_of, rooted, serially, solved, tabled, work};
+ghost use Rattle.clean_stage.specs.Stage.{Comes};
+ghost use Rattle.clean_top.specs.Meaning.{assembled, of_commit, called, classes_in, classes_of, graphed, lines_of, reported, rooted, serially, tabled, work};
 ghost use Rattle.clean_top.specs.Reading.{text_at};
 ghost use Rattle.clean_top.specs.declared.read.Text.{Text};
 ghost use Rattle.clean_top.specs.Words.{lists_of};
@@ -14,10 +11,8 @@ ghost use Rattle.clean_top.specs.Words.{lists_of};
 use crate::graph::draw;
 use crate::output::Output;
 use crate::read::{Text, Texts, text_at};
-use crate::report::make_report;
-use crate::solved::is_solved;
 use crate::task::Task;
-use app_program::{Program, assemble};
+use app_program::assemble;
 use call_graph::CallGraph;
 use class_table::ClassTable;
 use clean_base::{InputFault, MethodId, Seq};
@@ -25,6 +20,8 @@ use clean_stage::{Halt, Refusal};
 use core_driver::finish;
 use jimple_text::read_classes;
 use jimple_tree::{Class, Sig};
+use leak_report::{Report, write_report};
+use program_code::Program;
 use solver_core::{CommitStop, State};
 use source_sink::{Lists, read_lists};
 use std::alloc::{AllocError, Global};
@@ -35,6 +32,9 @@ const PERIOD: u64 = 256;
 
 // The most path edges.
 const EDGE_ROOM: u64 = 18446744073709551614;
+
+// A path keeps this many of its fields.
+const PATH_FIELDS: u8 = 5;
 
 // The classes of a class file.
 fn read_text(alloc: Global, text: &Text) -> Result<Seq<Class>, Halt>
@@ -71,31 +71,6 @@ fn read_list(alloc: Global, texts: &[Text]) -> Result<Lists, Halt>
     Ok(read_lists(alloc, list.bytes.as_slice(), list.file)?)
 }
 
-fn not_yet() -> Halt
-    ensures { result ≡ fault (NotYet 0) }
-{
-    Halt::of(InputFault::NotYet { file: 0 })
-}
-
-// The one class, where the solver works on it.
-fn solved_class(alloc: Global, classes: &[Class]) -> Result<&Class, Halt>
-    requires { All IsWellFormed classes.now }
-    ensures ok { IfOk result (λ c. Comes (solved classes.now) (Ok c.now)) }
-    ensures within { IfOk result (λ c. IsWithin c.now) }
-    ensures err { IfErr result (λ h. Comes (solved classes.now) (Err h)) }
-{
-    let [class] = classes else {
-        return Err(not_yet());
-    };
-    let Ok(solved) = is_solved(alloc, class) else {
-        return Err(Halt::OutOfMemory);
-    };
-    if !solved {
-        return Err(not_yet());
-    }
-    Ok(class)
-}
-
 fn of_commit(stop: CommitStop) -> Halt
     ensures { result ≡ of_commit stop }
 {
@@ -105,43 +80,33 @@ fn of_commit(stop: CommitStop) -> Halt
     }
 }
 
-// Solves a program.
-fn report_of(alloc: Global, class: &Class, program: &Program) -> Result<Output, Halt>
-    requires whole { IsWhole program.now.code }
-    requires root { program.now.root.0 < length program.now.code.firsts }
-    ensures ok { IfOk result (IsReport class.now program.now) }
-    ensures err { IfErr result (Unreported program.now) }
+// The program of the classes, entered at a method.
+fn program_of(alloc: Global, table: ClassTable, lists: &Lists, entry: &Sig) -> Result<Program, Halt>
+    ensures { Comes (assembled table lists.now entry.now) result }
 {
-    let code = &program.code;
-    let problem = TaintProblem::new(code, program.root);
+    Ok(assemble(alloc, table, lists, entry)?)
+}
+
+// Solves a program.
+fn report_of(alloc: Global, program: &Program) -> Result<Output, Halt>
+    ensures { Comes (reported program.now) result }
+{
+    let problem = TaintProblem::new(program, PATH_FIELDS);
     let state = State::open(alloc, &problem, PERIOD, EDGE_ROOM, 1)?;
     let answer = match finish(alloc, state) {
         Ok(answer) => answer,
         Err(stop) => return Err(of_commit(stop)),
     };
     let leaks = answer.marks.as_slice();
-    Ok(make_report(
+    let Report { text, leaky } = write_report(
         alloc,
         &problem,
-        class,
-        code,
+        program,
         leaks,
         answer.edges,
         answer.contexts,
-    )?)
-}
-
-// The report of the program that is entered at this method.
-fn serial(alloc: Global, entry: &Sig, texts: &Texts) -> Result<Output, Halt>
-    requires short { All (λ (t : Text). length t.bytes < 2 ^ 32) texts.now.classes }
-    requires list { 0 < length texts.now.lists }
-    ensures { Comes (serially entry.now texts.now) result }
-{
-    let classes = read_every_class(alloc, texts.classes.as_slice())?;
-    let class = solved_class(alloc, classes.as_slice())?;
-    let lists = read_list(alloc, texts.lists.as_slice())?;
-    let program = assemble(alloc, class, &lists, entry)?;
-    report_of(alloc, class, &program)
+    )?;
+    Ok(Output { text, leaky })
 }
 
 // The table of the classes.
@@ -150,6 +115,19 @@ fn table_of(alloc: Global, classes: Seq<Class>) -> Result<ClassTable, Halt>
     ensures { Comes (tabled classes) result }
 {
     Ok(ClassTable::build(alloc, classes.into_vec())?)
+}
+
+// The report of the classes that are entered at this method.
+fn serial(alloc: Global, entry: &Sig, texts: &Texts) -> Result<Output, Halt>
+    requires short { All (λ (t : Text). length t.bytes < 2 ^ 32) texts.now.classes }
+    requires list { 0 < length texts.now.lists }
+    ensures { Comes (serially entry.now texts.now) result }
+{
+    let classes = read_every_class(alloc, texts.classes.as_slice())?;
+    let lists = read_list(alloc, texts.lists.as_slice())?;
+    let table = table_of(alloc, classes)?;
+    let program = program_of(alloc, table, &lists, entry)?;
+    report_of(alloc, &program)
 }
 
 // The method where the classes are entered.

@@ -1,7 +1,7 @@
 // Working a solver's state off: items in hand go back, then one worker takes the first item and commits its moves, until
 // nothing is left. It ends: an edge's commit raises the number of commits, which the limit bounds, and a join's commit
 // queues no join.
-ghost use Rattle.std.specs.Prelude.{◌≡◌, ◌≤◌, ◌+◌, length, false, IfOk, OnOk, IfErr, Some};
+ghost use Rattle.std.specs.Prelude.{◌≡◌, ◌≤◌, length, false, IfOk, OnOk, IfErr, Some};
 ghost use Rattle.std.specs.List.Sorted.{IsStrictlySortedBy};
 ghost use Rattle.ifds_model.specs.Runs.{IsEdge, IsContext, IsLeak, HasCount, Lists};
 ghost use Rattle.ifds_model.specs.State.{At};

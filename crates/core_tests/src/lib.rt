@@ -1,5 +1,5 @@
-// Tests of the core: the moves of items, the tables of contexts, the driver, taint tracking and the turn, each on a small
-// example that is worked off by hand. Nothing stands above.
+// Tests of the core: the moves of items, the tables of contexts, the driver and the turn, each on a small example that is
+// worked off by hand. Nothing stands above.
 #![tactic(auto)]
 
 #[cfg(test)]
@@ -8,7 +8,5 @@ mod example;
 mod solver;
 #[cfg(test)]
 mod tables;
-#[cfg(test)]
-mod taint;
 #[cfg(test)]
 mod turns;

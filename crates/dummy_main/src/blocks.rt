@@ -1,5 +1,5 @@
 // The block of each kind of component. Lines, calls and small parts stand below; the generated class above.
-ghost use Rattle.std.specs.Prelude.{◌≡◌, ◌<◌, ◌≤◌, ◌^◌, ◌+◌, ◌++◌, OnOk, IfOk, [], ◌∷◌, map, length};
+ghost use Rattle.std.specs.Prelude.{◌≡◌, ◌<◌, ◌^◌, ◌+◌, ◌++◌, OnOk, IfOk, [], map, length};
 ghost use Rattle.dummy_main.specs.Layout.{block, chooses, stmt_of, lines, size};
 
 use crate::callback::Callback;

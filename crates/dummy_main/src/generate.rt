@@ -1,6 +1,6 @@
 // The class whose one method makes the components and calls them (docs/FORMATS.md, "The generated main method"). Blocks
 // stand below; nothing stands above yet.
-ghost use Rattle.std.specs.Prelude.{◌≡◌, ◌<◌, ◌≤◌, ◌^◌, ◌+◌, ◌++◌, OnOk, IfOk, [], ◌∷◌, length, codes, decimal};
+ghost use Rattle.std.specs.Prelude.{◌≡◌, ◌<◌, ◌≤◌, ◌+◌, ◌++◌, OnOk, IfOk, [], ◌∷◌, length, codes, decimal};
 ghost use Rattle.jimple_tree.specs.WellFormed.{IsWellFormed};
 ghost use Rattle.dummy_main.specs.Layout.{body_of, main_of, class_of, statements, choices, blocks, local_at, locals_from, first};
 ghost use Rattle.dummy_main.specs.Listing.{most_components};

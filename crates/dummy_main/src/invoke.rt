@@ -1,5 +1,5 @@
 // The calls of a component's methods. Callbacks and small parts stand below; blocks above.
-ghost use Rattle.std.specs.Prelude.{◌≡◌, ◌<◌, ◌^◌, ◌+◌, IfOk, [], ◌∷◌};
+ghost use Rattle.std.specs.Prelude.{◌≡◌, ◌<◌, ◌^◌, ◌+◌, IfOk, []};
 ghost use Rattle.dummy_main.specs.Lifecycle.{method};
 ghost use Rattle.dummy_main.specs.Layout.{call_with, call_of};
 

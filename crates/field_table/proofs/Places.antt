@@ -10,7 +10,7 @@ use Rattle.class_table.proofs.Once.{all_distinct, all_new, any_lacks, one_place}
 use Rattle.class_table.proofs.Picked.{filter_at, filter_from}
 use Rattle.field_table.specs.Chains.{declares, declarer, in_declarer, meaning, Means}
 use Rattle.field_table.specs.Fields.{declared_sigs, references, same_sig}
-use Rattle.field_table.specs.Numbers.{Fields, AreFields, undeclared, named_sigs, field_sigs, own_fields, HasFewFields, IsFieldNumber, IsFieldFault, fields}
+use Rattle.field_table.specs.Numbers.{Fields, AreFields, undeclared, named_sigs, field_sigs, own_fields, HasFewFields, IsFieldNumber, IsFieldFault, fields, HaveOneNumber}
 use Rattle.field_table.proofs.Keys.{at_longer, sigs_decide}
 use Rattle.field_table.proofs.Upwards.{once_from, started, found_here}
 use Rattle.jimple_tree.specs.declared.tree.Class.{Class}
@@ -74,6 +74,13 @@ module _ (cs : List Class) where
         let low = one.0 in
         let high = two.0 in
         omega (arith, same, low, high)
+
+  pub one_number : IsDistinct (declared_sigs cs) → ((sig own : FieldSig) → Means cs sig own ↔ (own ≡ meaning cs sig)) → HaveOneNumber cs
+  one_number declared_once exact sig f g (own, means, (past, at)) (other, so, (beyond, there)) =
+      let same : own ≡ other = (exact sig own).0 means ∙ sym ((exact sig other).0 so) in
+      let place = field_place declared_once (f.0 - own_fields) (g.0 - own_fields) other (subst (At (field_sigs cs) (f.0 - own_fields)) same at) there in
+      let number : f.0 ≡ g.0 = omega (arith, past, beyond, place) in
+      ap (λ (n : ℕ). let r : FieldId = record { 0 = n } in r) number
 
   -- the number of a place is the one of what stands there
   module _ (distinct : IsDistinct (declared_sigs cs)) (sig : FieldSig) (exact : (own : FieldSig) → Means cs sig own ↔ (own ≡ meaning cs sig)) where

@@ -41,6 +41,10 @@ IsField sigs f sig = (own_fields ≤ f.0) × At sigs (f.0 - own_fields) sig
 abbrev pub IsFieldNumber : List Class → FieldSig → FieldId → Type 0
 IsFieldNumber cs sig f = (own : FieldSig) × Means cs sig own × IsField (field_sigs cs) f own
 
+-- no reference has two
+abbrev pub HaveOneNumber : List Class → Type 0
+HaveOneNumber cs = (sig : FieldSig) (f g : FieldId) → IsFieldNumber cs sig f → IsFieldNumber cs sig g → f ≡ g
+
 -- the fields as contracts see them: those that classes declare, and those that references alone name
 pub record Fields : Type 0 where
   pub declared : List FieldSig

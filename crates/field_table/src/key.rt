@@ -1,6 +1,6 @@
 // Names by number, and the keys of field signatures that are made of these numbers. Names stand below; sets of signatures
 // above.
-ghost use Rattle.std.specs.Prelude.{◌≡◌, ◌++◌, ℕ, List, Contains, IfOk, MatchOption, OnOk};
+ghost use Rattle.std.specs.Prelude.{◌≡◌, ◌++◌, ℕ, List, Contains, IfOk, MatchOption};
 ghost use Rattle.std.proofs.Common.{rules};
 ghost use Rattle.clean_base.specs.Lists.{At, IsDistinct};
 ghost use Rattle.field_table.specs.Fields.{signature};

@@ -7,7 +7,7 @@ ghost use Rattle.clean_base.specs.declared.fault.InputFault.{InputFault};
 ghost use Rattle.clean_base.specs.declared.ids.FieldId.{FieldId};
 ghost use Rattle.field_table.specs.Chains.{meaning, Means};
 ghost use Rattle.field_table.specs.Fields.{declared_sigs, references};
-ghost use Rattle.field_table.specs.Numbers.{all_sigs, named_sigs, own_fields, AreFields, HasFewFields, IsField, IsFieldFault, IsFieldNumber, IsOnly, Refused};
+ghost use Rattle.field_table.specs.Numbers.{all_sigs, named_sigs, own_fields, AreFields, HasFewFields, HaveOneNumber, IsField, IsFieldFault, IsFieldNumber, IsOnly, Refused};
 ghost use Rattle.jimple_tree.specs.declared.tree.FieldSig.{FieldSig};
 
 use crate::chain::find_declared;
@@ -75,6 +75,7 @@ impl FieldTable {
         ensures means { (sig : FieldSig) (own : FieldSig) → Means table.now sig own ↔ (own ≡ meaning table.now sig) }
         ensures ok { IfOk result (AreFields table.now) }
         ensures few { OnOk result (HasFewFields table.now) }
+        ensures one { OnOk result (HaveOneNumber table.now) }
         ensures err { IfErr result (Refused table.now) }
     {
         let (declared, named) = match collected(alloc, table) {
@@ -92,6 +93,7 @@ impl FieldTable {
         ensures means { (sig : FieldSig) (own : FieldSig) → Means table.now sig own ↔ (own ≡ meaning table.now sig) }
         ensures ok { IfOk result (AreFields table.now) }
         ensures few { OnOk result (HasFewFields table.now) }
+        ensures one { OnOk result (HaveOneNumber table.now) }
         ensures faultless { OnOk result ((f : InputFault) → IsFieldFault table.now f → ⊥) }
         ensures err { IfErr result (Refused table.now) }
         ensures only { IfErr result (IsOnly table.now) }

@@ -1,5 +1,5 @@
 // For each node of a graph the chain of the nodes that lead to it. Rows stand below; `backwards` above.
-ghost use Rattle.std.specs.Prelude.{◌≡◌, ◌<◌, ◌+◌, ◌^◌, ◌≤◌, ◌++◌, ◌∷◌, [], ℕ, List, length, replicate, slice_index, slice_index_or, true, false, IfOk, OnOk};
+ghost use Rattle.std.specs.Prelude.{◌≡◌, ◌<◌, ◌+◌, ◌^◌, ◌≤◌, ◌∷◌, [], ℕ, List, length, replicate, slice_index, true, false, IfOk, OnOk};
 ghost use Rattle.flat_rows.specs.Chains.{AreChains, Chain, LeadsFrom, Linked};
 ghost use Rattle.flat_rows.specs.Converse.{IsGraph};
 

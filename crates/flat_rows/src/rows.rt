@@ -1,5 +1,5 @@
 // Lists of lists in one allocation for all items. `chains` and `backwards` stand above.
-ghost use Rattle.std.specs.Prelude.{◌≡◌, ◌<◌, ◌≤◌, ◌+◌, ◌-◌, ◌++◌, ◌∷◌, [], List, ℕ, length, slice_index_or, take, drop, OnOk};
+ghost use Rattle.std.specs.Prelude.{◌≡◌, ◌<◌, ◌≤◌, ◌+◌, ◌-◌, ◌++◌, ◌∷◌, [], List, length, slice_index_or, take, drop, OnOk};
 ghost use Rattle.flat_rows.specs.Rows.{AddsToLast, AreStarts, rows_at};
 
 use std::alloc::{AllocError, Global};

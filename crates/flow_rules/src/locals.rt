@@ -1,6 +1,6 @@
 // Taints and the locals of a statement, and taints added to a list of facts (docs/FLOW-RULES.md, "Rules for paths"). Facts
 // and statements stand below, the crates that carry the rules out above.
-ghost use Rattle.std.specs.Prelude.{◌≡◌, ◌↔◌, IsTrue, OnOk, Contains, Some};
+ghost use Rattle.std.specs.Prelude.{◌↔◌, IsTrue, OnOk, Contains, Some};
 ghost use Rattle.clean_base.specs.Lists.{AppendsSet};
 ghost use Rattle.access_path.specs.Paths.{IsOf};
 ghost use Rattle.flow_rules.specs.Locals.{Holds, Becomes, IsArgument};

@@ -1,6 +1,6 @@
 // What is left of the tokens, and one comparison each to look at or take the one in front.
 // Lexemes stand below; the readers of forms above.
-ghost use Rattle.std.specs.Prelude.{◌≡◌, ◌==◌, List, [], ◌∷◌, length};
+ghost use Rattle.std.specs.Prelude.{◌≡◌, ◌==◌, [], ◌∷◌, length};
 ghost use Rattle.jimple_grammar.specs.Reading.{sees, sees_one, read_token, read_refused, reading};
 ghost use Rattle.jimple_grammar.specs.Gives.{Gives, reason_number};
 ghost use Rattle.jimple_words.specs.Kind.{Kinds};

@@ -1,6 +1,6 @@
 // Reads bodies, one function for each form: declarations, statements with their labels, and catch clauses.
 // The readers of types and statements stand below; the readers of members and classes above.
-ghost use Rattle.std.specs.Prelude.{◌≡◌, List, [], ◌∷◌, ◌++◌, length};
+ghost use Rattle.std.specs.Prelude.{[]};
 ghost use Rattle.jimple_grammar.specs.Grammar.{both};
 ghost use Rattle.jimple_grammar.specs.Reading.{reading};
 ghost use Rattle.jimple_grammar.specs.Gives.{Gives, GivesMore};

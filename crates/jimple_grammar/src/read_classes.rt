@@ -1,11 +1,11 @@
 // Reads members, classes and files, one function for each form. The readers of types, statements and bodies stand below;
 // the reader of a whole file above.
-ghost use Rattle.std.specs.Prelude.{◌≡◌, List, [], ◌∷◌, ◌++◌, length};
+ghost use Rattle.std.specs.Prelude.{[]};
 ghost use Rattle.jimple_words.specs.declared.kind.Kind.TheVariants as kinds;
 ghost use Rattle.jimple_grammar.specs.Grammar.{both, plain};
 ghost use Rattle.jimple_grammar.specs.Reading.{reading};
 ghost use Rattle.jimple_grammar.specs.Gives.{Gives, GivesMore};
-ghost use Rattle.jimple_grammar.specs.Forms.{sign, before_member, param_slot, next_param, later_params, heading_params, throws, body_or_none, modifier, member_type, head, method_rest, behind_head, member, implements, extends_one, extends_several, class_heading, interface_heading, heading, members, heading_members, class, file};
+ghost use Rattle.jimple_grammar.specs.Forms.{sign, before_member, param_slot, next_param, later_params, heading_params, throws, body_or_none, member_type, head, method_rest, behind_head, member, implements, extends_one, extends_several, class_heading, interface_heading, heading, members, heading_members, class, file};
 
 use crate::cursor::{Cursor, ParseStop, Reason};
 use crate::lexeme::Lexeme;

@@ -1,6 +1,6 @@
 // Reads operands and calls, a function for each form. Types and signatures stand below; the readers of right sides and of
 // statements above.
-ghost use Rattle.std.specs.Prelude.{◌≡◌, List, [], ◌∷◌, ◌++◌, length};
+ghost use Rattle.std.specs.Prelude.{◌≡◌, [], ◌∷◌, ◌++◌};
 ghost use Rattle.jimple_words.specs.declared.kind.Kind.TheVariants as kinds;
 ghost use Rattle.jimple_grammar.specs.Grammar.{times};
 ghost use Rattle.jimple_grammar.specs.Reading.{reading, sees};

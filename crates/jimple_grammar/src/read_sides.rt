@@ -1,6 +1,5 @@
 // Reads what an assignment to a local reads, a function for each form. Operands and calls stand below; the readers of
 // statements above.
-ghost use Rattle.std.specs.Prelude.{◌≡◌, List};
 ghost use Rattle.jimple_grammar.specs.Reading.{reading};
 ghost use Rattle.jimple_grammar.specs.Gives.{Gives, GivesMoreWith};
 ghost use Rattle.jimple_grammar.specs.Forms.{element, behind_operand, behind_local, behind_handle, cast, new_array, later_lengths, new_multi, local_rhs, handle_rhs, constant_rhs, new_object, length_of, negated, static_load, called, rhs};

@@ -1,5 +1,5 @@
 // Reads statements, a function for each form. Right sides, operands and calls stand below; the readers of bodies above.
-ghost use Rattle.std.specs.Prelude.{◌≡◌, List, [], ◌∷◌, ◌++◌};
+ghost use Rattle.std.specs.Prelude.{◌≡◌, [], ◌∷◌};
 ghost use Rattle.jimple_words.specs.declared.kind.Kind.TheVariants as kinds;
 ghost use Rattle.jimple_grammar.specs.Grammar.{either};
 ghost use Rattle.jimple_grammar.specs.Reading.{reading, sees};

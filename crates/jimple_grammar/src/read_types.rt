@@ -1,6 +1,6 @@
 // Reads names, types and signatures, a function for each form. The cursor stands below; the readers of operands, and of
 // bodies and members, above.
-ghost use Rattle.std.specs.Prelude.{◌≡◌, ◌+◌, ◌≤◌, List, [], ◌∷◌, length, IfOk};
+ghost use Rattle.std.specs.Prelude.{◌+◌, ◌≤◌, [], length, IfOk};
 ghost use Rattle.jimple_words.specs.declared.kind.Kind.TheVariants as kinds;
 ghost use Rattle.jimple_grammar.specs.Grammar.{◌*>◌};
 ghost use Rattle.jimple_grammar.specs.Reading.{reading};

@@ -1,5 +1,5 @@
 // Kinds of bytes outside of words. Everything else in this crate stands above.
-ghost use Rattle.std.specs.Prelude.{◌≡◌, ◌+◌, ◌≤◌, ◌<◌, slice_index};
+ghost use Rattle.std.specs.Prelude.{◌≡◌, ◌+◌, ◌<◌, slice_index};
 ghost use Rattle.jimple_lex.specs.Bytes.{is_blank, is_quotable, goes_on};
 ghost use Rattle.jimple_words.specs.Bytes.{is_digit, is_letter};
 

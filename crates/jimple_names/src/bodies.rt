@@ -1,6 +1,5 @@
 // Bodies: their locals and labels, and then their statements and catch clauses. The resolver stands below; members above.
-ghost use Rattle.std.specs.Prelude.{◌≡◌, ◌≤◌, ◌<◌, ◌+◌, ◌-◌, ◌++◌, ◌∷◌, [], suc, ◌^◌, List, ℕ, length, map, flat_map, All, IfOk, OnOk};
-ghost use Rattle.std.specs.List.{position};
+ghost use Rattle.std.specs.Prelude.{◌≡◌, ◌<◌, ◌+◌, ◌-◌, ◌++◌, ◌∷◌, [], suc, ◌^◌, length, map, flat_map, IfOk, OnOk};
 ghost use Rattle.jimple_grammar.specs.declared.raw.RawItem.TheVariants as items;
 ghost use Rattle.jimple_grammar.specs.declared.raw.RawDecl.{RawDecl};
 ghost use Rattle.jimple_grammar.specs.Fits.{BodyFits, CodeFits, ItemFits};

@@ -1,5 +1,5 @@
 // Members: what tells them apart, fields and methods. Bodies stand below; classes above.
-ghost use Rattle.std.specs.Prelude.{◌≡◌, ◌++◌, ◌∷◌, [], List, ℕ, Bool, true, cond, map, All, IfOk, OnOk};
+ghost use Rattle.std.specs.Prelude.{◌≡◌, ◌++◌, ◌∷◌, [], true, cond, map, All, IfOk, OnOk};
 ghost use Rattle.std.specs.HashSet.{contains};
 ghost use Rattle.std.specs.List.{filter_map};
 ghost use Rattle.jimple_grammar.specs.Fits.{MemberFits, MethodFits, OptionalBodyFits};

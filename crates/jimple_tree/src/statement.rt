@@ -1,6 +1,6 @@
 // The texts of statements.
 // Bodies stand above, operands and labels below.
-ghost use Rattle.std.specs.Prelude.{◌≡◌, ◌++◌, ◌<◌, ◌≤◌, All, OnOk, codes, decimal};
+ghost use Rattle.std.specs.Prelude.{◌≡◌, ◌++◌, ◌<◌, All, OnOk, codes, decimal};
 ghost use Rattle.std.specs.List.{flat_map};
 ghost use Rattle.jimple_tree.specs.Labels.{IsNumbered, label_number};
 ghost use Rattle.jimple_tree.specs.Operands.{imm_text, local_text, type_text};

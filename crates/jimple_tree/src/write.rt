@@ -1,6 +1,6 @@
 // The canonical text of a class (docs/FORMATS.md, "Tree and canonical text"): headings, members, and the lines of bodies.
 // Statements, operands and names stand below; the crate's callers above.
-ghost use Rattle.std.specs.Prelude.{◌≡◌, ◌++◌, ◌+◌, ◌≤◌, ◌<◌, All, OnOk, codes, if◌then◌else◌, nat_lt, []};
+ghost use Rattle.std.specs.Prelude.{◌≡◌, ◌++◌, ◌+◌, ◌<◌, All, OnOk, codes, nat_lt, [], if◌then◌else◌};
 ghost use Rattle.std.specs.List.{flat_map};
 ghost use Rattle.jimple_tree.specs.Canonical.{
   canonical,

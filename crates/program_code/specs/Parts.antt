@@ -5,6 +5,7 @@ use Rattle.clean_base.specs.declared.ids.MethodId.{MethodId}
 use Rattle.clean_base.specs.declared.ids.StmtId.{StmtId}
 use Rattle.class_table.specs.Methods.{all_methods, IsNumber}
 use Rattle.flow_rules.specs.Code.{Code, IsWhole, StandsIn, Follows, Calls, IsReturn, MayThrow}
+use Rattle.field_table.specs.Numbers.{all_sigs}
 use Rattle.flow_rules.specs.Own.{IsNamed}
 use Rattle.jimple_tree.specs.declared.tree.Class.{Class}
 use Rattle.jimple_tree.specs.declared.tree.Method.{Method}
@@ -32,12 +33,12 @@ pub record IsCallGraph (code : Code) (rows : List (List ℕ)) : Type 0 where
 abbrev pub app_of : Parts → App
 app_of p = record {
   classes = p.table;
-  fields = p.fields;
+  fields = all_sigs p.fields;
   code = record {
     root = p.root;
     firsts = p.firsts;
     locals = p.locals;
-    fields = 2 + length p.fields;
+    fields = 2 + length (all_sigs p.fields);
     views = p.views;
     owners = p.owners;
     nexts = p.nexts;
@@ -57,7 +58,6 @@ pub record ArePartsOf (p : Parts) : Type 0 where
   pub targets : length p.targets ≡ length p.views
   pub locals : length p.locals ≡ length p.firsts
   pub few_statements : length p.views < 2 ^ 32
-  pub few_fields : 2 + length p.fields < 2 ^ 32
   -- methods have the numbers that they have among the classes, and the locals of their bodies; a method's first statement
   -- stands before its others
   pub methods : length (all_methods p.table) ≡ length p.firsts

@@ -9,3 +9,4 @@ mod stmts;
 
 pub use parts::Parts;
 pub use program::Program;
+pub use stmts::raises;

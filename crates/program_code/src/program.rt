@@ -16,7 +16,8 @@ use crate::parts::Parts;
 use crate::stmts::{locals_of, raises, takes};
 use access_path::View;
 use class_table::ClassTable;
-use clean_base::{FieldId, LocalId, MethodId, Name, Seq, StmtId};
+use clean_base::{FieldId, LocalId, MethodId, Name, StmtId};
+use flat_rows::FlatRows;
 use jimple_tree::FieldSig;
 use std::marker::Model;
 
@@ -38,11 +39,11 @@ impl Model for Program {
 }
 
 // The row with this number.
-fn row<T>(rows: &Seq<Seq<T>>, at: u32) -> &[T]
+fn row<T: Copy>(rows: &FlatRows<T>, at: u32) -> &[T]
     requires { at < length rows.now }
     ensures { result.now ≡ slice_index_or rows.now at [] }
 {
-    rows.as_slice()[at as usize].as_slice()
+    rows.row(at as usize)
 }
 
 impl Program {
@@ -82,7 +83,7 @@ impl Program {
     pub fn fields(&self) -> u32
         ensures { result ≡ self.now.code.fields }
     {
-        self.parts.fields.as_slice().len() as u32 + 2
+        self.parts.fields.count()
     }
 
     /// How many locals the method has.
@@ -220,9 +221,6 @@ impl Program {
         ensures some { IfSome result (λ sig. (2 ≤ f.0) × At self.now.fields (f.0 - 2) sig.now) }
         ensures none { IfNone result (f.0 < 2) }
     {
-        if f.0 < 2 {
-            return None;
-        }
-        Some(&self.parts.fields.as_slice()[f.0 as usize - 2])
+        self.parts.fields.sig(f)
     }
 }

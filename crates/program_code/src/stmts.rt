@@ -16,8 +16,8 @@ pub(crate) fn takes(view: &View) -> bool
     }
 }
 
-// Whether an exception may leave it.
-pub(crate) fn raises(view: &View) -> bool
+/// Whether an exception may leave the statement that is seen so.
+pub fn raises(view: &View) -> bool
     ensures { IsTrue result ↔ Raises view.now }
 {
     match view {

@@ -1,5 +1,5 @@
 -- Rows of bits that grow along the steps of a graph until none does.
-use Rattle.std.proofs.Common.{map, ◌≡◌, ◌<◌, ◌≤◌, ◌+◌, ◌/◌, ℕ, Bool, false, ◌||◌, List, [], ◌∷◌, ◌++◌, Contains, length, get_or, take, refl, sym, ap, ◌∙◌, subst, inl, inr, arith}
+use Rattle.std.proofs.Common.{map, ◌≡◌, ◌<◌, ◌+◌, ◌/◌, ℕ, Bool, false, ◌||◌, List, [], ◌∷◌, ◌++◌, Contains, length, get_or, take, refl, sym, ap, ◌∙◌, subst, inl, inr, arith}
 use Rattle.std.specs.List.{range_with_len}
 use Rattle.std.proofs.lemmas.Bool.{or_parts}
 use Rattle.std.proofs.lemmas.List.{take_more}
@@ -9,7 +9,7 @@ use Rattle.reach_rows.specs.Bits.{has_bit, HasBit, Grows, GainsFrom, HasRows, Is
 use Rattle.reach_rows.specs.Closure.{has, IsClosure}
 use Rattle.reach_rows.specs.Graphs.{row, Steps, IsGraph}
 use Rattle.reach_rows.specs.Reaches.{Reaches, here, on}
-use Rattle.reach_rows.proofs.Finished.{step_within}
+use Rattle.reach_rows.proofs.Paths.{steps_to}
 use Rattle.reach_rows.proofs.Words.{column_within}
 
 -- the row of a has those of one node more
@@ -31,7 +31,7 @@ module _ (rows : List (List ℕ)) (graph : IsGraph rows) (width : ℕ) (bits : L
   sound_more a b old new step gains sound x c row_in column_in bit = elim (gains x c (column_within (length rows) width bits c shape column_in) bit) [
     | inl was ↦ sound x c row_in column_in was
     | inr taken ↦
-        let way : Reaches (Steps rows) a c = on step (sound b c (step_within rows graph a b step) column_in taken.1) in
+        let way : Reaches (Steps rows) a c = on step (sound b c (steps_to rows a b graph step) column_in taken.1) in
         subst (λ (n : ℕ). Reaches (Steps rows) n c) (sym taken.0) way
   ]
 
@@ -39,7 +39,7 @@ module _ (rows : List (List ℕ)) (graph : IsGraph rows) (width : ℕ) (bits : L
   pub whole : (new : List ℕ) → IsOwn (length rows) width new → IsClosed rows width new → {a b : ℕ} → Reaches (Steps rows) a b → a < length rows → b < length rows → HasBit width new a b
   whole new own closed (here {a}) row_in column_in = own a row_in
   whole new own closed (on {a} {b} {c} step way) row_in column_in =
-      let next = step_within rows graph a b step in
+      let next = steps_to rows a b graph step in
       closed a row_in b c step (column_within (length rows) width bits c shape column_in) (whole new own closed way next column_in)
 
 -- one row more

@@ -4,9 +4,6 @@ pub mod Searches
 pub mod Backwards
 pub mod Floods
 pub mod Taken
-pub mod Once
 pub mod Walked
-pub mod Stamped
-pub mod Finished
 pub mod Words
 pub mod Closed

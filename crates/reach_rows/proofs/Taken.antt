@@ -1,11 +1,11 @@
 -- The nodes of a finished search, taken from the last one to the first.
-use Rattle.std.proofs.Common.{◌≡◌, ◌≢◌, ◌↔◌, ◌⊎◌, ℕ, ◌+◌, ◌-◌, ◌<◌, ◌≤◌, Bool, true, false, IsTrue, List, [], length, get_or, set, sym, subst, ◌∙◌, refl, arith, inl, inr}
+use Rattle.std.proofs.Common.{◌≡◌, ◌↔◌, ℕ, ◌+◌, ◌-◌, ◌<◌, ◌≤◌, Bool, true, false, IsTrue, List, length, get_or, set, sym, subst, refl, arith, inl, inr}
 use Rattle.std.proofs.lemmas.Bool.{cases_eq}
 use Rattle.clean_base.specs.Lists.{At}
 use Rattle.reach_rows.specs.Backward.{IsBackward}
 use Rattle.reach_rows.specs.Cycles.{AreTold, AreToldFrom, IsSpread, IsTaken, IsWhole}
 use Rattle.reach_rows.specs.Graphs.{Steps, IsGraph, IsOrder, IsOnCycle, IsFirstOnCycle}
-use Rattle.reach_rows.specs.Reaches.{here, on}
+use Rattle.reach_rows.specs.Reaches.{here}
 use Rattle.reach_rows.specs.Search.{IsFinish}
 use Rattle.reach_rows.proofs.Backwards.{reach_back, reach_forth}
 use Rattle.reach_rows.proofs.Floods.{reached_seen}

@@ -6,6 +6,4 @@ pub mod Closure
 pub mod Search
 pub mod Backward
 pub mod Cycles
-pub mod Onto
-pub mod Stamps
 pub mod Bits

@@ -1,6 +1,6 @@
 // How many edges moves would add, counted before anything changes: so a commit that is refused for the limit leaves
 // the state as it was. The parts stand below, a commit above.
-ghost use Rattle.std.specs.Prelude.{◌≡◌, ◌≤◌, ◌<◌, ◌+◌, ◌-◌, ◌^◌, ◌++◌, ◌∷◌, [], ℕ, IsTrue, false, length, Contains, IfOk, OnOk, IfErr};
+ghost use Rattle.std.specs.Prelude.{◌≡◌, ◌≤◌, ◌<◌, ◌+◌, ◌-◌, ◌^◌, [], ℕ, IsTrue, false, length, Contains, IfOk, OnOk, IfErr};
 ghost use Rattle.ifds_model.specs.declared.node.Move.TheVariants.{Go, Call};
 ghost use Rattle.ifds_model.specs.Runs.{opened, HasCount};
 ghost use Rattle.solver_core.specs.Gathered.{Gathers, IsOfEach, IsNew, IsNewTo, KeepsWithin, IsPassed};

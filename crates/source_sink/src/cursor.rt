@@ -1,5 +1,5 @@
 // Reads a signature from the front of a text, form by form. `signature` and `lists` stand above.
-ghost use Rattle.std.specs.Prelude.{◌≡◌, ◌≤◌, ◌+◌, ◌++◌, ◌*◌, length, drop, [], ◌∷◌, ◌↔◌, IsTrue, Some, None, IfOk, nat_eq, if◌then◌else◌};
+ghost use Rattle.std.specs.Prelude.{◌≡◌, ◌≤◌, ◌+◌, ◌*◌, length, drop, [], ◌↔◌, IsTrue, Some, None, IfOk, nat_eq, if◌then◌else◌};
 ghost use Rattle.std.specs.List.{prefix_len, starts_with};
 ghost use Rattle.source_sink.specs.Signature.{is_blank, is_sign, is_name_byte};
 ghost use Rattle.source_sink.specs.Reading.{Gives, GivesMore, sees, read_byte, name_len, read_name, is_space, read_spaces, without_spaces, pairs, without_pairs, read_type, read_later_type, read_later, read_params, read_sig};

@@ -12,9 +12,9 @@ use Rattle.jimple_tree.specs.declared.tree.Body.{Body}
 use Rattle.jimple_tree.specs.declared.tree.Class.{Class}
 use Rattle.class_table.specs.Methods.{all_methods, stmts_in}
 use Rattle.flat_rows.specs.Converse.{row, IsConverse, IsGraph}
-use Rattle.statement_graph.specs.Kept.{AreEnds, AreListed, StandsIn, method_id, stmt_id}
-use Rattle.statement_graph.specs.Statements.{first_of, IsAt, IsOf, Leads}
-use Rattle.statement_graph.proofs.Standing.{first_whole, leads_from, leads_to, one_place_only}
+use Rattle.statement_graph.specs.Kept.{AreListed, IsKept, StandsIn, method_id, stmt_id}
+use Rattle.statement_graph.specs.Statements.{first_of, AreRelated, AreStatements, IsAt, IsOf, Leads}
+use Rattle.statement_graph.proofs.Standing.{begins_own, first_whole, leads_from, leads_to, leads_together, one_place_only, stmt_within}
 
 ways : (a b : ℕ) → (a < b) ⊎ (b ≤ a)
 ways a b = grind arith
@@ -141,7 +141,7 @@ row_ids rows s = elim (ways s (length rows)) [
 ]
 
 pub ends_are : (cs : List Class) (R : StmtId → StmtId → Type 0) (rows : List (List ℕ)) (ids : List (List StmtId)) → length rows ≡ length (stmts_in cs) → ((s : ℕ) → IsStrictlyIncreasing (row rows s)) → ((s q : ℕ) → Contains (row rows s) q ↔ R (stmt_id s) (stmt_id q))
-    → ids ≡ map (map stmt_id) rows → AreEnds cs R ids
+    → ids ≡ map (map stmt_id) rows → AreRelated cs R ids
 ends_are cs R rows ids counted rises exact is = record {
   counted = ap length is ∙ length-map rows (map stmt_id) ∙ counted;
   ascending = λ s. subst (λ (qs : List StmtId). IsStrictlyIncreasing (map (λ (q : StmtId). q.0) qs)) (sym (same s)) (subst IsStrictlyIncreasing (sym (map_back (row rows s))) (rises s));
@@ -157,3 +157,49 @@ ends_are cs R rows ids counted rises exact is = record {
 -- what holds of all to which the relation leads holds of each item
 pub all_ends : (R : StmtId → Type 0) (P : StmtId → Type 0) (qs : List StmtId) → ((q : StmtId) → Contains qs q ↔ R q) → ((q : StmtId) → R q → P q) → All P qs
 all_ends R P qs exact holds k d below = holds (get_or qs k d) ((exact (get_or qs k d)).0 (Contains-get_or qs k d below))
+
+-- the kept lists are those of the statements
+module _ (cs : List Class) (firsts : List StmtId) (owners : List MethodId) (succs preds : List (List StmtId)) (kept : IsKept cs firsts owners succs preds) where
+  abbrev rows : List (List ℕ)
+  rows = kept.listed.0
+
+  are : AreListed cs (length (all_methods cs)) firsts owners rows
+  are = kept.listed.1
+
+  begins : (m : MethodId) (s : StmtId) → At firsts m.0 s → (s.0 ≡ first_of cs m.0) × IsOf cs s m
+  begins m s at =
+      let number = are.begins m.0 s at in
+      let count = are.methods in
+      let below = at.0 in
+      let (c, k, b, stmt, is) = begins_own cs s m kept.well_formed (omega (arith, count, below)) number in
+      (number, (c, k, b, 0, stmt, is))
+
+  owned : length owners ≡ length (stmts_in cs)
+  owned = owners_all cs firsts owners rows are
+
+  owner_is : (s : StmtId) (m : MethodId) → At owners s.0 m → (n : MethodId) → (m ≡ n) ↔ IsOf cs s n
+  owner_is s m at = owner_exact cs s m (row rows s.0) (stands_at cs firsts owners rows are s.0 m at).1
+
+  owners_are : (s : StmtId) (m : MethodId) → At owners s.0 m ↔ IsOf cs s m
+  owners_are s m = (there, back) where
+    there : At owners s.0 m → IsOf cs s m
+    there at = (owner_is s m at m).0 refl
+
+    back : IsOf cs s m → At owners s.0 m
+    back of =
+        let (c, k, b, p, stmt, is) = of in
+        let below = stmt_within cs s m c k b p stmt is in
+        let at = at_of owners s.0 (method_id 0) (omega (arith, below, owned)) in
+        let n = get_or owners s.0 (method_id 0) in
+        subst (At owners s.0) ((owner_is s n at m).1 of) at
+
+  pub kept_lists : AreStatements cs firsts owners succs preds
+  kept_lists = record {
+    methods = are.methods;
+    begins = begins;
+    owned = owned;
+    owners_are = owners_are;
+    forth = kept.forth;
+    back = kept.back;
+    together = λ s q leads. leads_together cs s q kept.well_formed leads;
+  }

@@ -1,5 +1,5 @@
 -- Where statements stand: their numbers method by method, and that each has one place.
-use Rattle.std.proofs.Common.{◌≡◌, ◌⊎◌, ◌+◌, ◌<◌, ◌≤◌, ℕ, zero, suc, Bool, true, false, cond, is_some, Option, Some, None, List, [], ◌∷◌, ◌++◌, Contains, All, length, get_or, take, map, refl, sym, ap, ◌∙◌, subst, inl, inr, arith}
+use Rattle.std.proofs.Common.{◌≡◌, ◌⊎◌, ◌↔◌, ◌+◌, ◌-◌, ◌<◌, ◌≤◌, ℕ, zero, suc, Bool, true, false, cond, is_some, Option, Some, None, List, [], ◌∷◌, ◌++◌, Contains, All, length, get_or, take, map, refl, sym, ap, ◌∙◌, subst, inl, inr, arith}
 use Rattle.std.specs.Prelude.{filter, flat_map}
 use Rattle.std.proofs.lemmas.Grind.{flat_map-append}
 use Rattle.std.proofs.lemmas.List.{length-append, get_or_default, take_more, take_all, take-take}
@@ -15,7 +15,7 @@ use Rattle.jimple_tree.specs.declared.tree.Method.{Method}
 use Rattle.jimple_tree.specs.declared.tree.Stmt.{Stmt}
 use Rattle.class_table.specs.Methods.{all_methods, methods_of, stmts_in}
 use Rattle.statement_graph.specs.Kept.{method_id}
-use Rattle.statement_graph.specs.Statements.{first_of, IsStmt, Leads, Together}
+use Rattle.statement_graph.specs.Statements.{first_of, IsOf, IsStmt, Leads, Together}
 use Rattle.statement_graph.proofs.Places.{at_once, succ_below}
 
 abbrev own_stmts : Class × Method → List Stmt
@@ -180,6 +180,13 @@ method_within cs n c k b at body =
     let whole = first_whole cs in
     omega (arith, size, up, whole)
 
+-- the numbers up to those of the next method are no more than all
+pub next_within : (cs : List Class) (n : ℕ) → n < length (all_methods cs) → first_of cs (n + 1) ≤ length (stmts_in cs)
+next_within cs n below =
+    let up = first_up cs (n + 1) (length (all_methods cs)) (omega (arith, below)) in
+    let whole = first_whole cs in
+    omega (arith, up, whole)
+
 pub stmt_within : (cs : List Class) (s : StmtId) (m : MethodId) (c : Class) (k : Method) (b : Body) (p : ℕ) (stmt : Stmt) → IsStmt cs s m c k b p stmt → s.0 < length (stmts_in cs)
 stmt_within cs s m c k b p stmt is =
     let below = (in_method cs m.0 c k b p is.method is.body is.place.0).1 in
@@ -243,3 +250,28 @@ leads_to cs s q formed leads =
     let within = (in_method cs leads.m.0 leads.c leads.k leads.b leads.u leads.is.method leads.is.body below).1 in
     let number = leads.number in
     omega (arith, within, number)
+
+-- a method's statements have the numbers from its first one up to the first of the next
+pub own_range : (cs : List Class) (s : StmtId) (m : MethodId) → m.0 < length (all_methods cs) → IsOf cs s m ↔ ((first_of cs m.0 ≤ s.0) × (s.0 < first_of cs (m.0 + 1)))
+own_range cs s m below = (there, back) where
+  there : IsOf cs s m → (first_of cs m.0 ≤ s.0) × (s.0 < first_of cs (m.0 + 1))
+  there (c, k, b, p, stmt, is) =
+      let less = (in_method cs m.0 c k b p is.method is.body is.place.0).0 in
+      let number = is.number in
+      (omega (arith, number), omega (arith, number, less))
+
+  back : (first_of cs m.0 ≤ s.0) × (s.0 < first_of cs (m.0 + 1)) → IsOf cs s m
+  back (from, to) =
+      let ((c, k), at) = item_there (all_methods cs) m.0 below in
+      let (b, body) = the_body k.body (has_body cs c k (m.0, at.0, at.1)) in
+      let size = method_size cs m.0 c k b at body in
+      let p = s.0 - first_of cs m.0 in
+      let (stmt, stands) = item_there b.stmts p (omega (arith, from, to, size)) in
+      (c, k, b, p, stmt, record { method = at; body = body; place = stands; number = omega (arith, from) })
+
+-- so the number of the next one's first bounds them
+pub own_below : (cs : List Class) (m : MethodId) (end : ℕ) → end ≡ first_of cs (m.0 + 1) → m.0 < length (all_methods cs) → (s : StmtId) → IsOf cs s m ↔ ((first_of cs m.0 ≤ s.0) × (s.0 < end))
+own_below cs m end is below s = subst (λ (e : ℕ). IsOf cs s m ↔ ((first_of cs m.0 ≤ s.0) × (s.0 < e))) (sym is) (own_range cs s m below)
+
+pub end_within : (cs : List Class) (m : MethodId) (end : ℕ) → end ≡ first_of cs (m.0 + 1) → m.0 < length (all_methods cs) → end ≤ length (stmts_in cs)
+end_within cs m end is below = let most = next_within cs m.0 below in omega (arith, is, most)

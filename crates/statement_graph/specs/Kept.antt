@@ -1,6 +1,5 @@
 -- What a graph of statements keeps. The public contracts don't cite this.
-use Rattle.std.specs.Prelude.{◌≡◌, ◌<◌, ◌≤◌, ◌↔◌, ℕ, List, [], length, map, slice_index_or, All, Contains}
-use Rattle.std.specs.List.Sorted.{IsStrictlyIncreasing}
+use Rattle.std.specs.Prelude.{◌≡◌, ◌<◌, ◌≤◌, ℕ, List, length, All}
 use Rattle.clean_base.specs.Limits.{most_methods, most_stmts}
 use Rattle.clean_base.specs.Lists.{At}
 use Rattle.clean_base.specs.declared.ids.MethodId.{MethodId}
@@ -11,7 +10,7 @@ use Rattle.jimple_tree.specs.declared.tree.Class.{Class}
 use Rattle.jimple_tree.specs.declared.tree.Method.{Method}
 use Rattle.jimple_tree.specs.declared.tree.Stmt.{Stmt}
 use Rattle.class_table.specs.Methods.{all_methods, stmts_in}
-use Rattle.statement_graph.specs.Statements.{first_of, IsStmt, Leads}
+use Rattle.statement_graph.specs.Statements.{first_of, AreRelated, IsStmt, Leads}
 use Rattle.statement_graph.specs.Successors.{IsRow}
 
 abbrev pub method_id : ℕ → MethodId
@@ -38,12 +37,6 @@ pub record AreListed (cs : List Class) (count : ℕ) (firsts : List StmtId) (own
   pub rowed : length rows ≡ first_of cs count
   pub each : (s : ℕ) (m : MethodId) (row : List ℕ) → At owners s m → At rows s row → (m.0 < count) × StandsIn cs s m.0 row
 
--- for each statement those of the relation, each once and in order
-pub record AreEnds (cs : List Class) (R : StmtId → StmtId → Type 0) (rows : List (List StmtId)) : Type 0 where
-  pub counted : length rows ≡ length (stmts_in cs)
-  pub ascending : (s : ℕ) → IsStrictlyIncreasing (map (λ (q : StmtId). q.0) (slice_index_or rows s []))
-  pub exact : (s q : StmtId) → s.0 < length (stmts_in cs) → Contains (slice_index_or rows s.0 []) q ↔ R s q
-
 -- all methods are listed, and where statements lead and where they are come from
 pub record IsKept (cs : List Class) (firsts : List StmtId) (owners : List MethodId) (succs preds : List (List StmtId)) : Type 0 where
   pub well_formed : All IsWellFormed cs
@@ -51,5 +44,5 @@ pub record IsKept (cs : List Class) (firsts : List StmtId) (owners : List Method
   pub few_stmts : length (stmts_in cs) ≤ most_stmts
   pub listed : (rows : List (List ℕ)) × AreListed cs (length (all_methods cs)) firsts owners rows
   pub whole : first_of cs (length (all_methods cs)) ≡ length (stmts_in cs)
-  pub forth : AreEnds cs (Leads cs) succs
-  pub back : AreEnds cs (λ s q. Leads cs q s) preds
+  pub forth : AreRelated cs (Leads cs) succs
+  pub back : AreRelated cs (λ s q. Leads cs q s) preds

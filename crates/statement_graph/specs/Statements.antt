@@ -1,5 +1,6 @@
 -- The statements of all bodies by number, and where they lead (docs/FLOW-RULES.md, "Successors").
-use Rattle.std.specs.Prelude.{◌≡◌, ◌+◌, ℕ, List, Some, length, take, flat_map}
+use Rattle.std.specs.Prelude.{◌≡◌, ◌↔◌, ◌<◌, ◌+◌, ℕ, List, [], Some, Contains, length, map, slice_index_or, take, flat_map}
+use Rattle.std.specs.List.Sorted.{IsStrictlyIncreasing}
 use Rattle.clean_base.specs.Lists.{At}
 use Rattle.clean_base.specs.declared.ids.MethodId.{MethodId}
 use Rattle.clean_base.specs.declared.ids.StmtId.{StmtId}
@@ -9,7 +10,7 @@ use Rattle.jimple_tree.specs.declared.tree.Body.{Body}
 use Rattle.jimple_tree.specs.declared.tree.Class.{Class}
 use Rattle.jimple_tree.specs.declared.tree.Method.{Method}
 use Rattle.jimple_tree.specs.declared.tree.Stmt.{Stmt}
-use Rattle.class_table.specs.Methods.{all_methods, IsNumber}
+use Rattle.class_table.specs.Methods.{all_methods, stmts_in, IsNumber}
 
 -- how many statements the first so many methods have
 abbrev pub first_of : List Class → ℕ → ℕ
@@ -46,3 +47,19 @@ pub record Leads (cs : List Class) (s q : StmtId) : Type 0 where
   pub u : ℕ
   pub succ : Succ b p u
   pub number : q.0 ≡ first_of cs m.0 + u
+
+-- for each statement those of the relation, each once and in order
+pub record AreRelated (cs : List Class) (R : StmtId → StmtId → Type 0) (rows : List (List StmtId)) : Type 0 where
+  pub counted : length rows ≡ length (stmts_in cs)
+  pub ascending : (s : ℕ) → IsStrictlyIncreasing (map (λ (q : StmtId). q.0) (slice_index_or rows s []))
+  pub exact : (s q : StmtId) → s.0 < length (stmts_in cs) → Contains (slice_index_or rows s.0 []) q ↔ R s q
+
+-- where each method begins, and of each statement its method, its successors and those of which it is one
+pub record AreStatements (cs : List Class) (firsts : List StmtId) (owners : List MethodId) (succs preds : List (List StmtId)) : Type 0 where
+  pub methods : length firsts ≡ length (all_methods cs)
+  pub begins : (m : MethodId) (s : StmtId) → At firsts m.0 s → (s.0 ≡ first_of cs m.0) × IsOf cs s m
+  pub owned : length owners ≡ length (stmts_in cs)
+  pub owners_are : (s : StmtId) (m : MethodId) → At owners s.0 m ↔ IsOf cs s m
+  pub forth : AreRelated cs (Leads cs) succs
+  pub back : AreRelated cs (λ s q. Leads cs q s) preds
+  pub together : (s q : StmtId) → Leads cs s q → Together cs s q

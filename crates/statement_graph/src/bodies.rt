@@ -1,5 +1,5 @@
 // The successors of all statements of a body. Where one statement leads stands below; `rows` above.
-ghost use Rattle.std.specs.Prelude.{◌≡◌, ◌↔◌, ◌⊎◌, ◌<◌, ◌≤◌, ◌++◌, ◌∷◌, [], ℕ, List, All, Contains, IfOk, OnOk, length, slice_index_or, slice_set};
+ghost use Rattle.std.specs.Prelude.{◌≡◌, ◌↔◌, ◌⊎◌, ◌<◌, ◌≤◌, ◌++◌, ◌∷◌, [], ℕ, All, Contains, IfOk, OnOk, length, slice_index_or, slice_set};
 ghost use Rattle.clean_base.specs.Limits.{most_stmts};
 ghost use Rattle.clean_base.specs.Lists.{At};
 ghost use Rattle.jimple_tree.specs.Successors.{Succ};

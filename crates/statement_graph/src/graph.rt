@@ -1,5 +1,5 @@
 // The graph of all statements of a table of classes. Statements are listed below; what goes along statements stands above.
-ghost use Rattle.std.specs.Prelude.{◌≡◌, ◌↔◌, ◌<◌, ◌≤◌, ◌+◌, ◌^◌, ◌++◌, ◌∷◌, [], ℕ, List, All, Contains, IfOk, OnOk, length, map};
+ghost use Rattle.std.specs.Prelude.{◌≡◌, ◌↔◌, ◌<◌, ◌≤◌, ◌+◌, [], ℕ, List, All, Contains, IfOk, OnOk, length, map};
 ghost use Rattle.std.specs.List.Sorted.{IsStrictlyIncreasing};
 ghost use Rattle.clean_base.specs.declared.ids.MethodId.{MethodId};
 ghost use Rattle.clean_base.specs.declared.ids.StmtId.{StmtId};
@@ -10,11 +10,11 @@ ghost use Rattle.jimple_tree.specs.declared.tree.Stmt.{Stmt};
 ghost use Rattle.class_table.specs.Methods.{all_methods, stmts_in};
 ghost use Rattle.flat_rows.specs.Rows.{AddsToLast};
 ghost use Rattle.statement_graph.specs.Kept.{stmt_id};
-ghost use Rattle.statement_graph.specs.Statements.{first_of, IsAt, IsOf, IsStmt, Leads, Together};
+ghost use Rattle.statement_graph.specs.Statements.{first_of, AreStatements, IsAt, IsOf, IsStmt, Leads, Together};
 
 use crate::listed::{Listed, list_all};
 use class_table::ClassTable;
-use clean_base::{MethodId, StmtId};
+use clean_base::{MethodId, Seq, StmtId};
 use flat_rows::{FlatRows, converse};
 use std::alloc::{AllocError, Global};
 use std::marker::Model;
@@ -27,6 +27,15 @@ pub struct StatementGraph<'a> {
     owners: Vec<MethodId>,
     succs: FlatRows<StmtId>,
     preds: FlatRows<StmtId>,
+}
+
+/// For each method its first statement; for each statement its method, its successors, and the statements of which it is one.
+#[derive(Drop)]
+pub struct StatementLists {
+    pub firsts: Seq<StmtId>,
+    pub owners: Seq<MethodId>,
+    pub succs: FlatRows<StmtId>,
+    pub preds: FlatRows<StmtId>,
 }
 
 impl<'a> Model for StatementGraph<'a> {
@@ -118,6 +127,19 @@ impl<'a> StatementGraph<'a> {
         self.firsts[m.0 as usize]
     }
 
+    /// The number behind those of a method's statements.
+    pub fn end(&self, m: MethodId) -> u32
+        requires { m.0 < length (all_methods self.now) }
+        ensures number { result ≡ first_of self.now (m.0 + 1) }
+        ensures within { result ≤ length (stmts_in self.now) }
+        ensures own { (s : StmtId) → IsOf self.now s m ↔ ((first_of self.now m.0 ≤ s.0) × (s.0 < result)) }
+    {
+        match self.firsts.get(m.0 as usize + 1) {
+            Some(next) => next.0,
+            None => self.owners.len() as u32,
+        }
+    }
+
     /// The method in which a statement stands.
     pub fn owner(&self, s: StmtId) -> MethodId
         requires { s.0 < length (stmts_in self.now) }
@@ -155,5 +177,17 @@ impl<'a> StatementGraph<'a> {
         ensures together { All (Together self.now s) result.now }
     {
         self.preds.row(s.0 as usize)
+    }
+
+    /// The graph's lists, apart from its table.
+    pub fn into_lists(self) -> StatementLists
+        ensures { AreStatements self.entry result.firsts result.owners result.succs result.preds }
+    {
+        StatementLists {
+            firsts: Seq::from_vec(self.firsts),
+            owners: Seq::from_vec(self.owners),
+            succs: self.succs,
+            preds: self.preds,
+        }
     }
 }

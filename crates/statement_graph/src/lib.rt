@@ -8,5 +8,5 @@ mod listed;
 mod rows;
 mod successors;
 
-pub use graph::StatementGraph;
+pub use graph::{StatementGraph, StatementLists};
 pub use successors::next_places;

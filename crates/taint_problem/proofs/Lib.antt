@@ -1,5 +1,3 @@
-pub mod Each
-pub mod Locals
-pub mod Params
-pub mod Parts
-pub mod Steps
+pub mod Sets
+pub mod Calling
+pub mod Splits

@@ -1,7 +1,3 @@
-pub mod Code
-pub mod Flow
 pub mod Laws
-pub mod Machine
 pub mod Moves
-pub mod Only
-pub mod Props
+pub mod Whole

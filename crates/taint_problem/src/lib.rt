@@ -1,15 +1,14 @@
-// Taint tracking as a problem for a solver: facts, what statements do to them, and calls that match their returns. The
-// model of machines stands below; no class, text or list is known here. The crates that make code of classes stand
-// above.
+// A whole program as a problem for a solver: the machine with fields, receivers, aliases and exceptions. Programs and the
+// flow rules stand below; the solver that works on it is told of no rule.
 #![tactic(auto)]
 
-pub mod code;
-pub mod fact;
-mod flow;
+mod crossing;
+mod facts;
+mod leaks;
 mod moves;
 mod places;
 pub mod problem;
+mod starts;
+mod steps;
 
-pub use code::{CallView, Code, View};
-pub use fact::{Base, Fact, Taint};
 pub use problem::TaintProblem;

@@ -45,7 +45,7 @@ const SOURCE: &[u8] = b"<S: int src()> -> _SOURCE_\n";
 // The kind of the signature of this text.
 fn kind(alloc: Global, table: &ClassTable, lists: &Lists, sig: &[u8]) -> Result<Kind, AllocError> {
     match read_sig(alloc, sig)? {
-        Some(sig) => Ok(kind_of(table, lists, &sig)),
+        Some(sig) => kind_of(alloc, table, lists, &sig),
         None => Ok(Kind {
             source: true,
             sink: true,

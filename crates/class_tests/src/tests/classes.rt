@@ -36,7 +36,7 @@ fn is_subtype(
     let sub = class_of(alloc, table, sub)?;
     let class = class_of(alloc, table, class)?;
     match (sub, class) {
-        (Some(sub), Some(class)) => Ok(Some(table.subtype(sub, class))),
+        (Some(sub), Some(class)) => Ok(Some(table.subtype(alloc, sub, class)?)),
         _ => Ok(None),
     }
 }
@@ -77,7 +77,7 @@ fn comes_to(
     let (Some(class), Some(call)) = (class_of(alloc, table, class)?, read_sig(alloc, call)?) else {
         return Ok(false);
     };
-    let found = table.resolve(class, &call);
+    let found = table.resolve(alloc, class, &call)?;
     match want {
         None => Ok(found.is_none()),
         Some(want) => {

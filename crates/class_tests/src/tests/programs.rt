@@ -1,219 +1,243 @@
-// Programs of texts: the successors of a body that jumps, a class of two methods, and an entry that it lacks.
+// A program of four classes: a virtual call of two methods, a field that is inherited and one that a reference alone names,
+// a catch, a source and a sink.
+use super::statements::are_ids;
 use super::texts::table_of;
-use app_program::{Program, assemble, next_places};
-use class_table::ClassTable;
-use clean_base::limits::MOST_STMTS;
-use clean_base::{InputFault, LocalId, MethodId, Seq, StmtId, Stop};
-use jimple_tree::Body;
+use app_program::assemble;
+use clean_base::{FieldId, MethodId, StmtId, Stop};
+use program_code::Program;
 use source_sink::{read_lists, read_sig};
-use std::alloc::{AllocError, Global};
+use std::alloc::Global;
 use std::test::Fail;
-use taint_problem::{Base, View};
 
-const TWO_METHODS: &[u8] = b"
-public class S extends Base
+// A label is named by the number of its statement, and the class Remote isn't given. Box's statements are 9 to 12, those
+// of Crate 13 and 14.
+const CLASSES: &[u8] = b"
+class Main extends java.lang.Object
 {
-    public static void main()
+    static Letter last;
+    static void main()
     {
-        int x;
-        x = staticinvoke <S: int src()>();
-        staticinvoke <S: void helper(int)>(x);
+        Box box;
+        Letter read, taken;
+        box = new Box;
+        read = staticinvoke <Phone: Letter read()>();
+     l2:
+        virtualinvoke box.<Box: void put(Letter)>(read);
+     l3:
+        taken = box.<Crate: Letter item>;
+        <Remote: Letter slot> = taken;
+        staticinvoke <Phone: void send(Letter,int)>(taken, 1);
+     l6:
         return;
+     l7:
+        taken := @caughtexception;
+        goto l6;
+        catch E from l2 to l3 with l7;
     }
-    public static void helper(int)
+}
+class Box extends java.lang.Object
+{
+    Letter item;
+    void put(Letter)
     {
-        int x;
-        x := @parameter0: int;
-        staticinvoke <S: void snk(int)>(x);
+        Box me;
+        Letter given;
+        me := @this: Box;
+        given := @parameter0: Letter;
+        me.<Box: Letter item> = given;
         return;
     }
 }
+class Crate extends Box
+{
+    void put(Letter)
+    {
+        Letter given;
+        given := @parameter0: Letter;
+        throw given;
+    }
+}
+abstract class Bag extends Box { abstract void put(Letter); }
 ";
 
-const LIST: &[u8] = b"<S: int src()> -> _SOURCE_\n<Base: void snk(int)> -> _SINK_\n";
+const LIST: &[u8] =
+    b"<Phone: Letter read()> -> _SOURCE_\n<Phone: void send(Letter,int)> -> _SINK_\n";
 
-// The program of the one class of a table, entered at the method of this signature.
-fn assembled(
-    alloc: Global,
-    table: &ClassTable,
-    list: &[u8],
-    entry: &[u8],
-) -> Result<Program, Stop> {
+// The program of the classes of a text with a list, entered at the method of this signature.
+pub fn program_of(alloc: Global, text: &[u8], list: &[u8], entry: &[u8]) -> Result<Program, Stop> {
+    let table = table_of(alloc, text)?;
     let lists = read_lists(alloc, list, 1)?;
-    let Ok(Some(entry)) = read_sig(alloc, entry) else {
-        return Err(Stop::OutOfMemory);
-    };
-    match table.given() {
-        [class] => assemble(alloc, class, &lists, &entry),
+    match read_sig(alloc, entry) {
+        Ok(Some(entry)) => assemble(alloc, table, &lists, &entry),
         _ => Err(Stop::OutOfMemory),
     }
 }
 
-fn program_of(alloc: Global, text: &[u8], entry: &[u8]) -> Result<Program, Stop> {
-    let table = table_of(alloc, text)?;
-    assembled(alloc, &table, LIST, entry)
+struct MethodRow {
+    first: u32,
+    returns: &'static [u32],
+    throws: &'static [u32],
+    // The methods to which open calls lead from it.
+    leads: &'static [u32],
 }
 
-// Whether a view is a call with this result, of the local or of nothing, of this kind and with this target.
-fn is_call(
-    view: &View,
-    to: Option<LocalId>,
-    args: &[Option<LocalId>],
-    says: (bool, bool),
-    target: Option<MethodId>,
-) -> bool {
-    match view {
-        View::Call(call) => {
-            call.result == to
-                && call.args.as_slice() == args
-                && call.source == says.0
-                && call.sink == says.1
-                && call.target == target
-        }
-        _ => false,
-    }
+static METHODS: [MethodRow; 3] = [
+    MethodRow {
+        first: 0,
+        returns: &[6],
+        throws: &[2],
+        leads: &[0, 1, 2],
+    },
+    MethodRow {
+        first: 9,
+        returns: &[12],
+        throws: &[],
+        leads: &[1],
+    },
+    MethodRow {
+        first: 13,
+        returns: &[],
+        throws: &[14],
+        leads: &[2],
+    },
+];
+
+fn leads(program: &Program, m: MethodId, told: &[u32]) -> bool {
+    m.0 < program.methods()
+        && (0..program.methods()).all(|n| program.closure_has(m, MethodId(n)) == told.contains(&n))
 }
 
-fn is_parameter(view: &View) -> bool {
-    match view {
-        View::Copy { to, from } => *to == LocalId(0) && *from == Base::Param(0),
-        _ => false,
-    }
+fn is_method(program: &Program, m: MethodId, row: &MethodRow) -> bool {
+    m.0 < program.methods()
+        && program.first(m).0 == row.first
+        && are_ids(program.returns(m), row.returns)
+        && are_ids(program.throws(m), row.throws)
+        && leads(program, m, row.leads)
 }
 
-fn is_bare_return(view: &View) -> bool {
-    match view {
-        View::Return(given) => given.is_none(),
-        _ => false,
-    }
-}
+// A statement's method and its place there, what leads to it, and where it leads.
+type StmtRow = ((u32, u32), &'static [u32], &'static [u32]);
 
-fn are_views(views: &[View]) -> bool {
-    let x = Some(LocalId(0));
-    let [first, second, third, fourth, fifth, sixth] = views else {
-        return false;
+static STMTS: [StmtRow; 15] = [
+    ((0, 0), &[], &[1]),
+    ((0, 1), &[0], &[2]),
+    ((0, 2), &[1], &[3, 7]),
+    ((0, 3), &[2], &[4]),
+    ((0, 4), &[3], &[5]),
+    ((0, 5), &[4], &[6]),
+    ((0, 6), &[5, 8], &[]),
+    ((0, 7), &[2], &[8]),
+    ((0, 8), &[7], &[6]),
+    ((1, 0), &[], &[10]),
+    ((1, 1), &[9], &[11]),
+    ((1, 2), &[10], &[12]),
+    ((1, 3), &[11], &[]),
+    ((2, 0), &[], &[14]),
+    ((2, 1), &[13], &[]),
+];
+
+// The one open call comes to both methods below.
+fn has_targets(program: &Program, s: StmtId) -> bool {
+    let told: &[MethodId] = if s.0 == 2 {
+        &[MethodId(1), MethodId(2)]
+    } else {
+        &[]
     };
-    is_call(first, x, &[], (true, false), None)
-        && is_call(second, None, &[x], (false, false), Some(MethodId(1)))
-        && is_bare_return(third)
-        && is_parameter(fourth)
-        && is_call(fifth, None, &[x], (false, true), None)
-        && is_bare_return(sixth)
+    s.0 < program.stmts() && program.targets_of(s) == told
 }
 
-fn are_owners(owners: &[MethodId], told: &[u32]) -> bool {
-    owners.len() == told.len() && owners.iter().zip(told).all(|(owner, n)| owner.0 == *n)
+fn is_stmt(program: &Program, s: StmtId, row: &StmtRow) -> bool {
+    s.0 < program.stmts()
+        && (program.method_of(s).0, program.place_of(s)) == row.0
+        && are_ids(program.preds(s), row.1)
+        && are_ids(program.succs(s), row.2)
+        && has_targets(program, s)
 }
 
-fn are_ids(ids: &[StmtId], told: &[u32]) -> bool {
-    ids.len() == told.len() && ids.iter().zip(told).all(|(id, n)| id.0 == *n)
-}
+static VIEWS: [(u32, &[u8]); 10] = [
+    (0, b"Kill { to: LocalId(0) }"),
+    (
+        1,
+        b"Call(CallView { stmt: StmtId(1), result: Some(LocalId(1)), receiver: None, args: Seq { items: [] }, source: true, sink: false, is_open: false })",
+    ),
+    (
+        2,
+        b"Call(CallView { stmt: StmtId(2), result: None, receiver: Some(LocalId(0)), args: Seq { items: [Some(LocalId(1))] }, source: false, sink: false, is_open: true })",
+    ),
+    (
+        3,
+        b"Load { to: LocalId(2), base: LocalId(0), field: FieldId(3) }",
+    ),
+    (
+        4,
+        b"StaticStore { field: FieldId(4), from: Some(LocalId(2)) }",
+    ),
+    (
+        5,
+        b"Call(CallView { stmt: StmtId(5), result: None, receiver: None, args: Seq { items: [Some(LocalId(2)), None] }, source: false, sink: true, is_open: false })",
+    ),
+    (7, b"Copy { to: LocalId(2), from: Thrown }"),
+    (9, b"Copy { to: LocalId(0), from: This }"),
+    (
+        11,
+        b"Store { base: LocalId(0), field: FieldId(3), from: Some(LocalId(1)) }",
+    ),
+    (14, b"Throw { value: Some(LocalId(0)) }"),
+];
 
-// Each statement leads to the next one of its method.
-fn are_nexts(nexts: &[Seq<StmtId>]) -> bool {
-    let told: [&[u32]; 6] = [&[1], &[2], &[], &[4], &[5], &[]];
-    nexts.len() == 6
-        && nexts
-            .iter()
-            .zip(&told)
-            .all(|(next, ids)| are_ids(next.as_slice(), ids))
-}
-
-fn is_told(program: &Program) -> bool {
-    program.root.0 == 0
-        && are_views(program.code.views.as_slice())
-        && are_owners(program.code.owners.as_slice(), &[0, 0, 0, 1, 1, 1])
-        && are_ids(program.code.firsts.as_slice(), &[0, 3])
-        && are_nexts(program.code.nexts.as_slice())
-}
-
-#[test]
-fn a_class_of_two_methods_is_a_program(rt: HostRuntime) -> Result<(), Fail> {
-    match program_of(rt.alloc(), TWO_METHODS, b"<S: void main()>") {
-        Ok(program) => assert!(rt; is_told(&program), "{program:?}"),
-        Err(stop) => assert!(rt; false, "{stop:?}"),
-    }
-    match program_of(rt.alloc(), TWO_METHODS, b"<S: int main()>") {
-        Err(stop) => assert!(rt; stop == Stop::Fault(InputFault::EntryMissing), "{stop:?}"),
-        Ok(program) => assert!(rt; false, "{program:?}"),
-    }
-    Ok(())
-}
-
-// Its clauses cover a goto that leads to their handler, a return twice, no statement, and the last two statements.
-const JUMPING: &[u8] = b"
-class J extends java.lang.Object
-{
-    static void j()
-    {
-        int x;
-     l0:
-        goto l4;
-     l1:
-        if x == x goto l1;
-     l2:
-        lookupswitch(x)
-        {
-            case 1: goto l5;
-            case 2: goto l0;
-            case 3: goto l5;
-            default: goto l3;
-        };
-     l3:
-        return;
-     l4:
-        nop;
-     l5:
-        throw x;
-     l6:
-        if x == x goto l0;
-     l7:
-        catch E from l0 to l1 with l4;
-        catch E from l3 to l4 with l6;
-        catch E from l3 to l4 with l6;
-        catch E from l4 to l4 with l0;
-        catch E from l6 to l2 with l3;
-        catch E from l5 to l7 with l1;
-    }
-}
-";
-
-static LEADS: [&[u32]; 7] = [&[4], &[1, 2], &[0, 3, 5], &[6], &[5], &[1], &[0, 1]];
-
-fn leads_to(alloc: Global, body: &Body, place: usize, told: &[u32]) -> Result<bool, AllocError> {
-    let count = body.stmts.as_slice().len();
-    if count > MOST_STMTS || place >= count {
+fn is_seen(alloc: Global, program: &Program, s: StmtId, told: &[u8]) -> Result<bool, Fail> {
+    if s.0 >= program.stmts() {
         return Ok(false);
     }
-    let places = next_places(alloc, body, place as u32)?;
-    Ok(places.as_slice() == told)
+    let view = program.view(s);
+    Ok(format!(in alloc; "{view:?}")?.as_bytes() == told)
 }
 
-fn leads_as_told(alloc: Global, body: &Body) -> Result<bool, AllocError> {
-    for (place, told) in LEADS.iter().enumerate() {
-        if !leads_to(alloc, body, place, told)? {
-            return Ok(false);
-        }
-    }
-    Ok(body.stmts.as_slice().len() == 7)
-}
+// The class and the name of each field but the two that no class declares.
+static FIELDS: [(&[u8], &[u8]); 3] = [(b"Main", b"last"), (b"Box", b"item"), (b"Remote", b"slot")];
 
-// Whether the table's first method leads as told.
-fn first_leads(alloc: Global, table: &ClassTable) -> Result<bool, AllocError> {
-    if table.methods() == 0 {
-        return Ok(false);
+fn is_field(program: &Program, f: FieldId, class: &[u8], name: &[u8]) -> bool {
+    if f.0 >= program.fields() {
+        return false;
     }
-    match &table.method(MethodId(0)).body {
-        Some(body) => leads_as_told(alloc, body),
-        None => Ok(false),
+    match program.field_sig(f) {
+        Some(sig) => sig.class.bytes() == class && sig.name.bytes() == name,
+        None => false,
     }
 }
 
 #[test]
-fn statements_of_a_body_that_jumps_have_their_successors(rt: HostRuntime) -> Result<(), Fail> {
-    match table_of(rt.alloc(), JUMPING) {
-        Ok(table) => assert!(rt; first_leads(rt.alloc(), &table)?),
-        Err(stop) => assert!(rt; false, "{stop:?}"),
+fn a_program_of_four_classes(rt: HostRuntime) -> Result<(), Fail> {
+    let Ok(program) = program_of(rt.alloc(), CLASSES, LIST, b"<Main: void main()>") else {
+        assert!(rt; false, "no program");
+        return Ok(());
+    };
+    assert_eq!(rt;
+        (
+            program.root().0,
+            program.methods(),
+            program.stmts(),
+            program.fields()
+        ),
+        (0, 3, 15, 5)
+    );
+    for (m, row) in METHODS.iter().enumerate() {
+        assert!(rt; is_method(&program, MethodId(m as u32), row), "method {m}");
+    }
+    for (s, row) in STMTS.iter().enumerate() {
+        assert!(rt; is_stmt(&program, StmtId(s as u32), row), "statement {s}");
+    }
+    for (s, told) in &VIEWS {
+        assert!(rt;
+            is_seen(rt.alloc(), &program, StmtId(*s), told)?,
+            "statement {s}"
+        );
+    }
+    for (place, (class, name)) in FIELDS.iter().enumerate() {
+        assert!(rt;
+            is_field(&program, FieldId(place as u32 + 2), class, name),
+            "{place}"
+        );
     }
     Ok(())
 }

@@ -1,7 +1,7 @@
-use Rattle.std.proofs.Common.{◌↔◌, Contains, take}
+use Rattle.std.proofs.Common.{◌↔◌, Contains}
 use Rattle.clean_base.specs.declared.ids.MethodId.{MethodId}
-use Rattle.call_graph.specs.ByNumber.{ResolvesIn}
+use Rattle.call_graph.proofs.Resolved.{ResolvesTo}
 use Rattle.call_graph.proofs.calls.resolved_in.Given as goal
 
-abbrev pub invariant-loop-class : goal.invariant-loop-class
-invariant-loop-class l = (n : MethodId) → Contains l.found.items n ↔ ResolvesIn l.table (take l.class-index l.classes) l.sig n
+abbrev pub invariant-loop-number : goal.invariant-loop-number
+invariant-loop-number l = (n : MethodId) → Contains l.found.items n ↔ ResolvesTo l.table l.marks l.number l.sig n

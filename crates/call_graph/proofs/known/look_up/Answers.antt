@@ -10,8 +10,8 @@ use Rattle.call_graph.proofs.known.look_up.Goals as goal
 pub returns : goal.returns
 returns c =
     let up = λ (ms : List MethodId). IsStrictlyIncreasing (map (λ (m : MethodId). m.0) ms) in
-    let exact = λ (kind : InvokeKind) (ms : List MethodId). (n : MethodId) → Contains ms n ↔ (IsTargetOf c.args.table.now kind c.args.sig.now n × IsNeither c.kind_of-said.result) in
-    known_is c.args.table.now c.args.lists.now c.args.sig.now c.kind_of-said.result c.from_vec.result c.from_vec-2.result c.kind_of-said.ensures.source c.kind_of-said.ensures.sink
+    let exact = λ (kind : InvokeKind) (ms : List MethodId). (n : MethodId) → Contains ms n ↔ (IsTargetOf c.args.table.now kind c.args.sig.now n × IsNeither c.in_ok-said.said) in
+    known_is c.args.table.now c.args.lists.now c.args.sig.now c.in_ok-said.said c.from_vec.result c.from_vec-2.result c.in_ok-said.ensures.source c.in_ok-said.ensures.sink
     (subst up (sym c.from_vec.ensures) c.in_ok-own.ensures.ascending)
     (subst (exact kinds.Special) (sym c.from_vec.ensures) c.in_ok-own.ensures.exact)
     (subst up (sym c.from_vec-2.ensures) c.in_ok-below.ensures.ascending)

@@ -1,4 +1,4 @@
-use Rattle.std.proofs.Common.{◌≡◌, ◌<◌, ◌∙◌, [], arith}
+use Rattle.std.proofs.Common.{◌∙◌, [], arith}
 use Rattle.std.proofs.lemmas.List.{get_or_read}
 use Rattle.reach_rows.proofs.Backwards.{back_more, back_all}
 use Rattle.reach_rows.proofs.backward.add_all.Goals as goal

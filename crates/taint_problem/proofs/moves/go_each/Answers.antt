@@ -1,24 +1,14 @@
-use Rattle.std.proofs.Common.{◌≡◌, ◌+◌, List, take, arith, subst}
-use Rattle.std.proofs.lemmas.List.{take_all}
-use Rattle.clean_base.specs.declared.ids.StmtId.{StmtId}
-use Rattle.clean_base.specs.Lists.{AppendsSet}
-use Rattle.ifds_model.specs.declared.node.Move.TheVariants.{Go}
-use Rattle.taint_problem.specs.Moves.{ToEach}
-use Rattle.clean_base.proofs.Appended.{appends_both, appends_one}
-use Rattle.taint_problem.proofs.Each.{each_more}
+use Rattle.std.proofs.Common.{arith}
+use Rattle.std.proofs.lemmas.List.{get_or_default}
+use Rattle.taint_problem.specs.Moves.{GoesTo}
+use Rattle.taint_problem.proofs.Sets.{one_more, all_done}
 use Rattle.taint_problem.proofs.moves.go_each.Goals as goal
 
-pub loop-next-preserved : goal.loop-next-preserved
-loop-next-preserved c =
-    let ts = c.args.nexts.now in
-    let i = c.loop-next.next-index in
-    let fact = c.args.fact in
-    let move = Go c.before-in-loop-next.result fact in
-    appends_both (ToEach (take i ts) (λ g. g ≡ fact)) (λ m. m ≡ move) (ToEach (take (i + 1) ts) (λ g. g ≡ fact)) _ _ _
-    (each_more ts i _ fact c.before-in-loop-next.result (omega arith) c.before-in-loop-next.ensures) c.loop-next.invariant
-    (appends_one (λ m. m ≡ move) _ _ move (λ m. ((λ e. e), (λ e. e))) (c.in_ok-push_go.ensures))
+pub loop-q-preserved : goal.loop-q-preserved
+loop-q-preserved c = one_more c.args.qs.now c.loop-q.q-index _ (GoesTo c.args.program.now.code c.args.dir c.args.fact.now) _ _ _ (omega arith) c.loop-q.invariant (c.in_ok-go_to.ensures)
 
 pub returns : goal.returns
-returns c =
-    let ts = c.args.nexts.now in
-    subst (λ (done : List StmtId). AppendsSet (ToEach done (λ g. g ≡ c.args.fact)) c.args.out.now.items c.loop-next.out.items) (take_all c.loop-next.next-index ts c.loop-next-test.false) c.loop-next.invariant
+returns c = all_done c.args.qs.now c.loop-q.q-index (GoesTo c.args.program.now.code c.args.dir c.args.fact.now) _ _ c.loop-q-test.false c.loop-q.invariant
+
+pub go_to-requires : goal.go_to-requires
+go_to-requires c = c.requires _ (c.loop-q.q-index, c.loop-q-test.true, get_or_default c.args.qs.now c.loop-q.q-index _ _ c.loop-q-test.true)

@@ -1,6 +1,5 @@
-use Rattle.std.proofs.Common.{◌≡◌, ◌≤◌, List, length, subst, sym, refl, ◌∙◌}
+use Rattle.std.proofs.Common.{◌≡◌, ◌≤◌, List, length, subst, sym, refl}
 use Rattle.jimple_tree.specs.declared.tree.Class.{Class}
-use Rattle.class_table.specs.Concretes.{AreConcretes}
 use Rattle.clean_base.specs.Limits.{most_methods, most_stmts}
 use Rattle.class_table.specs.Faults.{IsTable, HasFewNames, HaveNames, IsAcyclic, methods, stmts}
 use Rattle.class_table.specs.Hierarchy.{class_names}
@@ -9,7 +8,7 @@ use Rattle.class_table.specs.Members.{AreMembers}
 use Rattle.class_table.specs.Methods.{all_methods, stmts_in}
 use Rattle.class_table.proofs.Readings.{too_many}
 use Rattle.class_table.proofs.table.ClassTable.made.Goals as goal
-use Rattle.class_table.proofs.table.ClassTable.made.Goals.{In-Ok-concretes}
+use Rattle.class_table.proofs.table.ClassTable.made.Goals.{In-Ok}
 
 pub returns-then-not-has_few_methods-clause-err : goal.returns-then-not-has_few_methods-clause-err
 returns-then-not-has_few_methods-clause-err c =
@@ -30,10 +29,7 @@ returns-then-not-has_few_stmts-clause-err c =
     stmts few names acyclic within
     (too_many (length (stmts_in cs)) most_stmts c.has_few_stmts.result (λ h. c.has_few_stmts.ensures.1 (subst (λ (ds : List Class). length (stmts_in ds) ≤ most_stmts) (sym c.as_slice-4.ensures.value) h)) c.if-not-has_few_stmts.true)
 
-pub concretes-requires-clause-acyclic : goal.concretes-requires-clause-acyclic
-concretes-requires-clause-acyclic c = subst (λ (ds : List Class). IsAcyclic ds) (c.as_slice-2.ensures.value ∙ sym c.as_slice-6.ensures.value) c.in_ok-links.ensures.acyclic
-
-table : (c : In-Ok-concretes) → IsTable c.args.classes.items
+table : (c : In-Ok) → IsTable c.args.classes.items
 table c = record {
   few = subst (λ (ds : List Class). HasFewNames ds) c.as_slice.ensures.value c.in_ok-names.ensures.few;
   names = subst (λ (ds : List Class). HaveNames ds) c.as_slice.ensures.value c.in_ok-names.ensures.distinct;
@@ -49,7 +45,6 @@ invariant_of-result c = record {
   numbered = subst (λ (ds : List Class). c.in_ok-names.names.keys ≡ class_names ds) c.as_slice.ensures.value c.in_ok-names.ensures.keys;
   linked = subst (λ (ds : List Class). HasLinks ds c.in_ok-links.links) c.as_slice-2.ensures.value c.in_ok-links.ensures.links;
   listed = subst (λ (ds : List Class). AreMembers ds c.in-Ok.members) c.as_slice-5.ensures.value c.in-Ok.ensures;
-  concrete = subst (λ (ds : List Class). AreConcretes ds (length ds) c.in-Ok-concretes.concretes.items) c.as_slice-6.ensures.value c.in-Ok-concretes.ensures;
 }
 
 pub returns-clause-ok : goal.returns-clause-ok

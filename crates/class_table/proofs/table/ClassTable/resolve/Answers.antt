@@ -1,4 +1,4 @@
-use Rattle.std.proofs.Common.{◌≡◌, ◌↔◌, ℕ, List, Some, subst, ◌∙◌}
+use Rattle.std.proofs.Common.{◌≡◌, ◌↔◌, ℕ, List, IfOk, Some, subst, ◌∙◌}
 use Rattle.clean_base.specs.Lists.{At}
 use Rattle.clean_base.specs.declared.ids.MethodId.{MethodId}
 use Rattle.jimple_tree.specs.declared.tree.Class.{Class}
@@ -8,4 +8,5 @@ use Rattle.class_table.proofs.table.ClassTable.resolve.Goals as goal
 
 pub returns : goal.returns
 returns c =
-    subst (λ (cs : List Class). (n : MethodId) → (c.resolve.result ≡ Some n) ↔ ((name : List ℕ) × At (class_names cs) c.args.class.0 name × Resolves cs name c.args.sig.now n)) (c.as_slice.ensures.value ∙ c.self.view_is) c.resolve.ensures
+    subst (λ (cs : List Class). IfOk c.resolve.result (λ found. (n : MethodId) → (found ≡ Some n) ↔ ((name : List ℕ) × At (class_names cs) c.args.class.0 name × Resolves cs name c.args.sig.now n)))
+    (c.as_slice-classes.ensures.value ∙ c.self.view_is) c.resolve.ensures

@@ -3,8 +3,7 @@ use Rattle.clean_base.specs.declared.ids.StmtId.{StmtId}
 use Rattle.jimple_tree.specs.WellFormed.{IsWellFormed}
 use Rattle.jimple_tree.specs.declared.tree.Class.{Class}
 use Rattle.class_table.specs.Methods.{stmts_in}
-use Rattle.statement_graph.specs.Kept.{AreEnds}
-use Rattle.statement_graph.specs.Statements.{Leads, Together}
+use Rattle.statement_graph.specs.Statements.{AreRelated, Leads, Together}
 use Rattle.statement_graph.proofs.Ends.{all_ends}
 use Rattle.statement_graph.proofs.Standing.{leads_to, leads_together}
 use Rattle.statement_graph.proofs.graph.StatementGraph.succs.Goals as goal
@@ -12,7 +11,7 @@ use Rattle.statement_graph.proofs.graph.StatementGraph.succs.Goals.{After-row}
 
 exact : (c : After-row) (q : StmtId) → Contains c.row.result.now q ↔ Leads c.args.self.now c.args.s q
 exact c q =
-    let ends = subst (λ (cs : List Class). AreEnds cs (Leads cs) c.self.inside.succs) c.self.view_is c.self.invariant.forth in
+    let ends = subst (λ (cs : List Class). AreRelated cs (Leads cs) c.self.inside.succs) c.self.view_is c.self.invariant.forth in
     subst (λ (qs : List StmtId). Contains qs q ↔ Leads c.args.self.now c.args.s q) (sym c.row.ensures) (ends.exact c.args.s q c.requires)
 
 pub returns-clause-exact : goal.returns-clause-exact

@@ -1,5 +1,0 @@
-use Rattle.std.proofs.Common.{◌≡◌, ◌++◌, replicate}
-use Rattle.app_program.proofs.program.add_owner.Given as goal
-
-abbrev pub invariant-loop : goal.invariant-loop
-invariant-loop l = l.owners.items ≡ l.fn.owners.items ++ replicate l.counter l.method

@@ -1,5 +1,0 @@
-use Rattle.flow_problem.specs.Whole.{whole_of}
-use Rattle.flow_problem.proofs.problem.TaintProblemProblem.starts.Goals as goal
-
-pub add_starts-requires : goal.add_starts-requires
-add_starts-requires c = whole_of c.args.self.now.program.now.code c.args.self.now.kept

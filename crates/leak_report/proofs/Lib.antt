@@ -1,0 +1,5 @@
+pub mod Appended
+pub mod Named
+pub mod Numbered
+pub mod Ordered
+pub mod Pairs

@@ -1,0 +1,8 @@
+use Rattle.std.proofs.Common.{take}
+use Rattle.clean_base.specs.Lists.{AppendsSet}
+use Rattle.flow_rules.specs.Only.{OfEach}
+use Rattle.taint_problem.specs.Moves.{GoesOn}
+use Rattle.taint_problem.proofs.moves.all_go_on.Given as goal
+
+abbrev pub invariant-loop-fact : goal.invariant-loop-fact
+invariant-loop-fact l = AppendsSet (OfEach (take l.fact-index l.facts) (GoesOn l.program.code l.dir l.s)) l.fn.out.items l.out.items
