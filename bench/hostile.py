@@ -44,11 +44,13 @@ def calls(count):
 
 
 def names(count):
-    """Classes with many names in their headings."""
-    yield VIRTUAL
-    for number in range(count):
-        above = ", ".join(f"I{number * 8 + place}" for place in range(8))
-        yield f"class C{number} implements {above} {{ }}\n"
+    """Interfaces each of which extends the eight before it, and a class below them all."""
+    yield "class A { static void m() { T t; interfaceinvoke t.<T: void v()>(); return; } }\n"
+    yield "interface T { void v() { return; } }\ninterface C0 extends T { }\n"
+    for number in range(1, count - 3):
+        above = ", ".join(f"C{place}" for place in range(max(0, number - 8), number))
+        yield f"interface C{number} extends {above} {{ }}\n"
+    yield f"class B implements C{count - 4} {{ }}\n"
 
 
 def sites(count):

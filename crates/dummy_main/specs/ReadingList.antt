@@ -10,7 +10,8 @@ use Rattle.dummy_main.specs.declared.list.Refusal.{Refusal}
 use Rattle.dummy_main.specs.declared.list.Refusal.TheVariants.{Bad, Double, Memory}
 use Rattle.dummy_main.specs.declared.entry.Said.{Said}
 use Rattle.dummy_main.specs.declared.entry.Said.TheVariants.{Nothing, Names, Other}
-use Rattle.dummy_main.specs.Listing.{most_components, IsPassedOver, Gives, name_of, IsBad, IsDouble}
+use Rattle.list_lines.specs.Lines.{IsPassedOver}
+use Rattle.dummy_main.specs.Listing.{most_components, Gives, name_of, IsBad, IsDouble}
 
 abbrev pub Says : List ℕ → Said → Type 0
 Says line Nothing = IsPassedOver line

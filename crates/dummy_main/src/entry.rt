@@ -1,13 +1,14 @@
-// What a line of a component list says. Names and components stand below; `list` above.
-ghost use Rattle.std.specs.Prelude.{◌≡◌, ◌≤◌, ◌<◌, ◌↔◌, length, IfOk, IfSome, IfNone, IsTrue};
-ghost use Rattle.std.specs.List.{prefix_len, suffix_len, list_all};
+// What a line of a component list says. Names, components and what all lists share stand below; `list` above.
+ghost use Rattle.std.specs.Prelude.{◌≡◌, ◌<◌, IfOk, IfSome, IfNone};
+ghost use Rattle.std.specs.List.{list_all};
 ghost use Rattle.dummy_main.specs.declared.component.Component.{Component};
 ghost use Rattle.dummy_main.specs.declared.component.ComponentKind.{ComponentKind};
-ghost use Rattle.dummy_main.specs.Listing.{is_blank, is_class_byte, without_blanks_before, without_blanks_behind, trimmed, word_len, word_of, IsPassedOver, Gives};
+ghost use Rattle.dummy_main.specs.Listing.{is_class_byte, word_of, Gives};
 ghost use Rattle.dummy_main.specs.ReadingList.{Says};
 
 use crate::{Component, ComponentKind};
 use clean_base::Name;
+use list_lines::{is_passed_over, without_blanks_before, word_len};
 use std::alloc::{AllocError, Global};
 
 /// What a line says.
@@ -17,53 +18,6 @@ pub enum Said {
     Names(Component),
     /// It isn't understood.
     Other,
-}
-
-fn is_blank(c: u8) -> bool
-    ensures { result ≡ is_blank c }
-{
-    c == b'\t' || c == b' '
-}
-
-fn blanks_before(text: &[u8]) -> usize
-    ensures value { result ≡ prefix_len is_blank text.now }
-    ensures within { result ≤ length text.now }
-{
-    text.iter().take_while(|c| is_blank(**c)).count()
-}
-
-fn blanks_behind(text: &[u8]) -> usize
-    ensures value { result ≡ suffix_len is_blank text.now }
-    ensures within { result ≤ length text.now }
-{
-    text.iter().rev().take_while(|c| is_blank(**c)).count()
-}
-
-fn without_blanks_before(text: &[u8]) -> &[u8]
-    ensures { result.now ≡ without_blanks_before text.now }
-{
-    &text[blanks_before(text)..]
-}
-
-fn without_blanks_behind(text: &[u8]) -> &[u8]
-    ensures { result.now ≡ without_blanks_behind text.now }
-{
-    &text[..text.len() - blanks_behind(text)]
-}
-
-/// The text without the blanks at both ends.
-pub(crate) fn trimmed(text: &[u8]) -> &[u8]
-    ensures { result.now ≡ trimmed text.now }
-{
-    without_blanks_behind(without_blanks_before(text))
-}
-
-// How many bytes stand before the first blank.
-fn word_len(line: &[u8]) -> usize
-    ensures value { result ≡ word_len line.now }
-    ensures within { result ≤ length line.now }
-{
-    line.iter().take_while(|c| !is_blank(**c)).count()
 }
 
 fn kind_of(word: &[u8]) -> Option<ComponentKind>
@@ -107,12 +61,6 @@ fn component_of(alloc: Global, line: &[u8]) -> Result<Option<Component>, AllocEr
         kind,
         name: Name::from_vec(Vec::from_slice(alloc, name)?),
     }))
-}
-
-fn is_passed_over(line: &[u8]) -> bool
-    ensures { IsTrue result ↔ IsPassedOver line.now }
-{
-    line.is_empty() || line[0] == b'%'
 }
 
 /// What a line without blanks at its ends says.

@@ -1,5 +1,5 @@
 // The components of an app: lists of them, and the class whose one method means exactly their lifecycles. Trees of classes
-// (`jimple_tree`) and the index of names stand below; nothing stands above yet.
+// (`jimple_tree`), the index of names and what all lists share (`list_lines`) stand below; nothing stands above yet.
 #![tactic(auto)]
 
 mod blocks;

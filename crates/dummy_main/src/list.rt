@@ -1,16 +1,18 @@
-// Lists of components, read line by line. `entry` stands below.
+// Lists of components, read line by line. `entry` and what all lists share stand below.
 ghost use Rattle.std.specs.Prelude.{◌≡◌, ◌<◌, ◌≤◌, ◌++◌, [], ◌∷◌, ℕ, List, length, map, Contains, IfOk, IfErr, OnOk, MatchBool};
 ghost use Rattle.dummy_main.specs.declared.list.Refusal.TheVariants.{Memory};
 ghost use Rattle.clean_base.specs.declared.fault.InputFault.{InputFault};
 ghost use Rattle.dummy_main.specs.declared.component.Component.{Component};
-ghost use Rattle.dummy_main.specs.Listing.{most_components, trimmed, Gives, name_of, IsList, IsFirstFault, Refused, list_lines};
+ghost use Rattle.list_lines.specs.Lines.{trimmed, list_lines};
+ghost use Rattle.dummy_main.specs.Listing.{most_components, Gives, name_of, IsList, IsFirstFault, Refused};
 ghost use Rattle.dummy_main.specs.ReadingList.{IsIndexed, MayFollow, Adds, RefusesLine, stop_of};
 
 use crate::Component;
 use crate::component::MOST_COMPONENTS;
-use crate::entry::{Said, read_line, trimmed};
+use crate::entry::{Said, read_line};
 use bstr::ByteSlice;
 use clean_base::{InputFault, Name, Stop};
+use list_lines::trimmed;
 use name_index::NameIndex;
 use std::alloc::{AllocError, AllocFailed, Global};
 

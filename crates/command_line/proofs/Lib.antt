@@ -1,0 +1,9 @@
+pub mod Lookups
+pub mod Steps
+pub mod Looks
+pub mod Lines
+pub mod Bridge
+pub mod Values
+pub mod Exact
+pub mod Loops
+pub mod Asked

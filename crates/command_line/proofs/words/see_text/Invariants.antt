@@ -1,0 +1,5 @@
+use Rattle.std.proofs.Common.{ℕ, ◌<◌, List, IsUtf8, slice_index_or}
+use Rattle.command_line.proofs.words.see_text.Given as goal
+
+abbrev pub invariant-loop-word : goal.invariant-loop-word
+invariant-loop-word l = (k : ℕ) (d : List ℕ) → k < l.word-index → IsUtf8 (slice_index_or l.words k d)
