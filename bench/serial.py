@@ -39,11 +39,13 @@ METHOD = (
 
 
 # Objects go into the next method and come back, through fields of each other.
+# Objects go through chains of so many methods.
+HEAP_CHAIN = 20
+HEAP_HEAD = "        a = new A;\n        a.<A: int v> = value;\n        b = staticinvoke <A: A m{number}(A)>(a);\n"
 HEAP_START = (
-    "    public static void m()\n    {\n        A a, b;\n        int value;\n        a = new A;\n"
-    "        value = staticinvoke <S: int src()>();\n        a.<A: int v> = value;\n"
-    "        b = staticinvoke <A: A m0(A)>(a);\n        value = b.<A: int v>;\n"
-    "        staticinvoke <S: void snk(int)>(value);\n        return;\n    }\n"
+    "    public static void m()\n    {{\n        A a, b;\n        int value;\n"
+    "        value = staticinvoke <S: int src()>();\n{heads}        value = b.<A: int v>;\n"
+    "        staticinvoke <S: void snk(int)>(value);\n        return;\n    }}\n"
 )
 HEAP_METHOD = (
     "    public static A m{number}(A)\n    {{\n        A a, b, c, d;\n        a := @parameter0: A;\n"
@@ -85,15 +87,16 @@ def methods(count):
 
 
 def heap(count):
-    last = count - 1
+    heads = "".join(HEAP_HEAD.format(number=number) for number in range(0, count, HEAP_CHAIN))
     bodies = (
         HEAP_METHOD.format(
             number=number,
-            call="nop;" if number == last else f"d = staticinvoke <A: A m{number + 1}(A)>(d);",
+            call="nop;" if (number + 1) % HEAP_CHAIN == 0 else f"d = staticinvoke <A: A m{number + 1}(A)>(d);",
         )
         for number in range(count)
     )
-    return ("public class A extends java.lang.Object\n{\n" + HEAP_FIELDS + HEAP_START + "".join(bodies) + "}\n").encode()
+    start = HEAP_START.format(heads=heads)
+    return ("public class A extends java.lang.Object\n{\n" + HEAP_FIELDS + start + "".join(bodies) + "}\n").encode()
 
 
 def main():
