@@ -89,9 +89,9 @@ KINDS = {
 }
 
 
-def run(program, folder):
-    """The code, the output's last line, user time, time in all and peak of memory in megabytes."""
-    words = [str(program), "graph", "--entry", ENTRY, "--lists", "L", "A.jimple"]
+def measured(program, folder, *words):
+    """A run's code, its output's last line, seconds of user time and in all, and the peak of memory in megabytes."""
+    words = [str(program), *words]
     out = folder / "out"
     began = time.monotonic()
     child = os.fork()
@@ -116,7 +116,7 @@ def main():
             make, count = KINDS[kind]
             text = "".join(make(count)).encode()
             (folder / "A.jimple").write_bytes(text)
-            code, last, user, seconds, memory = run(program, folder)
+            code, last, user, seconds, memory = measured(program, folder, "graph", "--entry", ENTRY, "--lists", "L", "A.jimple")
             print(f"{kind:10} {len(text) / 1e6:6.1f} MB  code {code}  {user:6.2f} s user  {seconds:6.2f} s  {memory:7.0f} MB  {last}")
 
 

@@ -12,4 +12,5 @@ pub mod Counting
 pub mod Targets
 pub mod OneView
 pub mod Same
+pub mod Entered
 pub mod Made

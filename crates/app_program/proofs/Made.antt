@@ -1,66 +1,64 @@
 -- What was gathered makes the program of the classes, and why there is none.
-use Rattle.std.proofs.Common.{◌≡◌, ◌↔◌, ◌+◌, ◌++◌, List, Option, Some, None, length, refl, sym, ap, ◌∙◌}
-use Rattle.std.proofs.lemmas.Option.{same_Some}
+use Rattle.std.proofs.Common.{◌≡◌, ◌+◌, ◌++◌, List, length, ap, ◌∙◌}
 use Rattle.clean_base.specs.declared.fault.InputFault.{InputFault}
-use Rattle.clean_base.specs.declared.fault.InputFault.TheVariants.{EntryMissing}
 use Rattle.clean_base.specs.declared.fault.Stop.{Stop}
 use Rattle.clean_base.specs.declared.fault.Stop.TheVariants.{Fault, OutOfMemory}
 use Rattle.clean_base.specs.declared.ids.MethodId.{MethodId}
 use Rattle.jimple_tree.specs.declared.tree.Class.{Class}
 use Rattle.jimple_tree.specs.declared.tree.FieldSig.{FieldSig}
-use Rattle.jimple_tree.specs.declared.tree.Sig.{Sig}
 use Rattle.source_sink.specs.declared.line.Line.{Line}
-use Rattle.class_table.specs.Methods.{IsDeclared}
 use Rattle.field_table.specs.Fields.{declared_sigs}
 use Rattle.field_table.specs.Numbers.{all_sigs, field_sigs, own_fields, Fields, AreFields, IsFieldFault}
 use Rattle.field_table.specs.Numbers as numbers
 use Rattle.program_code.specs.Parts.{app_of}
 use Rattle.program_code.specs.declared.parts.Parts.{Parts}
-use Rattle.app_program.specs.Faults.{IsFault, IsOnly, Refused, missing, fields}
+use Rattle.app_program.specs.Entry.{IsOnlyRootFault, IsRoot, IsRootFault, RootRefused}
+use Rattle.app_program.specs.Faults.{IsFault, IsOnly, Refused, closed, fields}
 use Rattle.app_program.specs.Gathered.{AreGathered}
 use Rattle.app_program.specs.Program.{IsProgram}
+use Rattle.app_program.specs.declared.entry.Entry.{Entry}
+use Rattle.app_program.proofs.Entered.{no_root_fault}
 use Rattle.app_program.proofs.Gathers.{gathered_methods, gathered_stmts}
 
 all_are : (cs : List Class) (all : Fields) → AreFields cs all → all_sigs all ≡ field_sigs cs
 all_are cs all are = ap (λ (xs : List FieldSig). xs ++ all.named) are.all_declared ∙ ap (λ (xs : List FieldSig). declared_sigs cs ++ xs) are.all_named
 
-module _ (cs : List Class) (entry : Sig) where
-  pub made : (lines : List Line) (p : Parts) → AreGathered cs lines p → IsDeclared cs entry p.root → IsProgram cs lines entry (app_of p)
-  made lines p are declared = record {
+module _ (cs : List Class) (entry : Entry) where
+  pub made : (lines : List Line) (p : Parts) → AreGathered cs lines p → IsRoot cs entry p.root → IsProgram cs lines entry (app_of p)
+  made lines p are root = record {
     classes = are.table;
     fields = all_are cs p.fields are.fields;
     numbered = ap (λ (xs : List FieldSig). own_fields + length xs) (all_are cs p.fields are.fields);
-    root = declared;
+    root = root;
     methods = gathered_methods cs lines p are;
     stmts = gathered_stmts cs lines p are;
   }
 
-  -- what is found under the signature is the only one
-  module _ (found : Option MethodId) (exact : (n : MethodId) → (found ≡ Some n) ↔ IsDeclared cs entry n) where
-    pub one_declared : (n m : MethodId) → IsDeclared cs entry n → IsDeclared cs entry m → n ≡ m
-    one_declared n m one two = same_Some n m (sym ((exact n).1 one) ∙ (exact m).1 two)
+  -- they can't be entered there
+  pub closed_refused : (stop : Stop) → RootRefused cs entry stop → Refused cs entry stop
+  closed_refused (Fault f) is = closed f is
+  closed_refused OutOfMemory is = tt
 
-    pub none_declared : found ≡ None → (n : MethodId) → IsDeclared cs entry n → ⊥
-    none_declared none n declared = some_none n (sym none ∙ (exact n).1 declared) where
-      some_none : (n : MethodId) → None ≡ Some n → ⊥
-      some_none n is = cc
+  only_closed_fault : (f : InputFault) → IsRootFault cs entry f → ((other : InputFault) → IsRootFault cs entry other → other ≡ f) → (other : InputFault) → IsFault cs entry other → other ≡ f
+  only_closed_fault f is one other (closed g also) = one g also
+  only_closed_fault f is one other (fields m root g also) = absurd (no_root_fault cs entry m root f is)
 
-  pub only_missing : ((n : MethodId) → IsDeclared cs entry n → ⊥) → IsOnly cs entry (Fault EntryMissing)
-  only_missing none other (missing lacks) = refl
-  only_missing none other (fields n declared f is) = absurd (none n declared)
+  pub only_closed : (stop : Stop) → RootRefused cs entry stop → IsOnlyRootFault cs entry stop → IsOnly cs entry stop
+  only_closed (Fault f) is one = only_closed_fault f is one
+  only_closed OutOfMemory is one = tt
 
-  module _ (n : MethodId) (declared : IsDeclared cs entry n) where
+  module _ (m : MethodId) (root : IsRoot cs entry m) where
     pub no_fault : ((f : InputFault) → IsFieldFault cs f → ⊥) → (f : InputFault) → IsFault cs entry f → ⊥
-    no_fault few other (missing lacks) = lacks n declared
-    no_fault few other (fields m known f is) = few f is
+    no_fault few other (closed f is) = no_root_fault cs entry m root f is
+    no_fault few other (fields n known f is) = few f is
 
     pub refused : (stop : Stop) → numbers.Refused cs stop → Refused cs entry stop
-    refused (Fault f) is = fields n declared f is
+    refused (Fault f) is = fields m root f is
     refused OutOfMemory is = tt
 
     only_fields : (f : InputFault) → numbers.IsOnly cs (Fault f) → (other : InputFault) → IsFault cs entry other → other ≡ f
-    only_fields f one other (missing lacks) = absurd (lacks n declared)
-    only_fields f one other (fields m known g is) = one g is
+    only_fields f one other (closed g is) = absurd (no_root_fault cs entry m root g is)
+    only_fields f one other (fields n known g is) = one g is
 
     pub only : (stop : Stop) → numbers.IsOnly cs stop → IsOnly cs entry stop
     only (Fault f) one = only_fields f one

@@ -9,16 +9,17 @@ use Rattle.clean_base.specs.declared.ids.StmtId.{StmtId}
 use Rattle.jimple_tree.specs.declared.tree.Class.{Class}
 use Rattle.jimple_tree.specs.declared.tree.FieldSig.{FieldSig}
 use Rattle.jimple_tree.specs.declared.tree.Method.{Method}
-use Rattle.jimple_tree.specs.declared.tree.Sig.{Sig}
 use Rattle.jimple_tree.specs.declared.tree.Stmt.{Stmt}
 use Rattle.source_sink.specs.declared.line.Line.{Line}
 use Rattle.access_path.specs.declared.view.View.{View}
-use Rattle.class_table.specs.Methods.{all_methods, stmts_in, IsDeclared}
+use Rattle.class_table.specs.Methods.{all_methods, stmts_in}
 use Rattle.field_table.specs.Numbers.{HaveOneNumber}
 use Rattle.call_graph.proofs.Only.{same_lists as same_items}
 use Rattle.flow_rules.specs.Code.{Code, Follows}
 use Rattle.program_code.specs.App.{App, locals_of}
+use Rattle.app_program.specs.Entry.{IsRoot}
 use Rattle.app_program.specs.Program.{AreMethods, AreStmts, IsProgram}
+use Rattle.app_program.specs.declared.entry.Entry.{Entry}
 use Rattle.app_program.proofs.Rowed.{item_at}
 use Rattle.app_program.proofs.OneView.{one_seen}
 
@@ -123,7 +124,7 @@ app classes fields root firsts locals count views owners nexts targets = record 
 }
 
 -- the program is one, where the entry names one method and each reference has one number
-pub one_program : (cs : List Class) (lines : List Line) (entry : Sig) → HaveOneNumber cs → ((n m : MethodId) → IsDeclared cs entry n → IsDeclared cs entry m → n ≡ m)
+pub one_program : (cs : List Class) (lines : List Line) (entry : Entry) → HaveOneNumber cs → ((n m : MethodId) → IsRoot cs entry n → IsRoot cs entry m → n ≡ m)
     → (p q : App) → IsProgram cs lines entry p → IsProgram cs lines entry q → q ≡ p
 one_program cs lines entry numbered declared p q one two =
     let c = p.code in

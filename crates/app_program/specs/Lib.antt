@@ -1,3 +1,4 @@
+pub mod Entry
 pub mod Program
 pub mod Faults
 pub mod Ends

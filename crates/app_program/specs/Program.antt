@@ -1,4 +1,4 @@
--- The program of classes and a list, entered at a method (docs/ARCHITECTURE.md, "The way of one input").
+-- The program of classes and a list, and where it is entered (docs/ARCHITECTURE.md, "The way of one input").
 use Rattle.std.specs.Prelude.{◌≡◌, ◌↔◌, ◌+◌, ℕ, List, length, map}
 use Rattle.std.specs.List.Sorted.{IsStrictlyIncreasing}
 use Rattle.clean_base.specs.Lists.{At}
@@ -6,16 +6,17 @@ use Rattle.clean_base.specs.declared.ids.MethodId.{MethodId}
 use Rattle.clean_base.specs.declared.ids.StmtId.{StmtId}
 use Rattle.jimple_tree.specs.declared.tree.Class.{Class}
 use Rattle.jimple_tree.specs.declared.tree.Method.{Method}
-use Rattle.jimple_tree.specs.declared.tree.Sig.{Sig}
 use Rattle.jimple_tree.specs.declared.tree.Stmt.{Stmt}
 use Rattle.source_sink.specs.declared.line.Line.{Line}
 use Rattle.access_path.specs.declared.view.View.{View}
-use Rattle.class_table.specs.Methods.{all_methods, stmts_in, IsDeclared, IsNumber}
+use Rattle.class_table.specs.Methods.{all_methods, stmts_in, IsNumber}
 use Rattle.field_table.specs.Numbers.{field_sigs, own_fields}
 use Rattle.flow_rules.specs.Code.{Code, Follows, StandsIn}
 use Rattle.program_code.specs.App.{App, locals_of}
 use Rattle.statement_graph.specs.Statements.{first_of, IsOf, Leads}
 use Rattle.statement_views.specs.Seen.{AreTargets, Sees}
+use Rattle.app_program.specs.Entry.{IsRoot}
+use Rattle.app_program.specs.declared.entry.Entry.{Entry}
 
 -- the methods with a body: where each begins, and how many locals it has
 pub record AreMethods (cs : List Class) (code : Code) : Type 0 where
@@ -36,11 +37,11 @@ pub record AreStmts (cs : List Class) (lines : List Line) (code : Code) : Type 0
   pub called : length code.targets ≡ length (stmts_in cs)
   pub targets : (s : ℕ) (stmt : Stmt) (row : List MethodId) → At (stmts_in cs) s stmt → At code.targets s row → AreTargets cs lines stmt row
 
--- entered at the method that is declared under the signature
-pub record IsProgram (cs : List Class) (lines : List Line) (entry : Sig) (app : App) : Type 0 where
+-- the program is entered at the method where the entry leads
+pub record IsProgram (cs : List Class) (lines : List Line) (entry : Entry) (app : App) : Type 0 where
   pub classes : app.classes ≡ cs
   pub fields : app.fields ≡ field_sigs cs
   pub numbered : app.code.fields ≡ own_fields + length (field_sigs cs)
-  pub root : IsDeclared cs entry app.code.root
+  pub root : IsRoot cs entry app.code.root
   pub methods : AreMethods cs app.code
   pub stmts : AreStmts cs lines app.code

@@ -4,7 +4,9 @@
 mod calls;
 pub mod code_lists;
 pub mod ends;
+pub mod entry;
 mod methods;
 mod program;
 
+pub use entry::{Entry, root_of};
 pub use program::assemble;

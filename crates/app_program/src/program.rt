@@ -1,4 +1,5 @@
-// The program of classes and a list. What is gathered of methods and statements stands below; the top call above.
+// The program of classes and a list. Where it is entered and what is gathered of methods and statements stand below; the top
+// call above.
 ghost use Rattle.std.specs.Prelude.{◌≡◌, ◌<◌, IfErr, IfOk, OnOk, length};
 ghost use Rattle.clean_base.specs.declared.fault.InputFault.{InputFault};
 ghost use Rattle.class_table.specs.Methods.{all_methods};
@@ -9,10 +10,10 @@ ghost use Rattle.app_program.specs.Gathered.{AreGathered};
 ghost use Rattle.app_program.specs.Program.{IsProgram};
 
 use crate::code_lists::{CodeLists, GraphLists, lists_of};
+use crate::entry::{Entry, root_of};
 use class_table::ClassTable;
-use clean_base::{InputFault, MethodId, Stop};
+use clean_base::{MethodId, Stop};
 use field_table::FieldTable;
-use jimple_tree::Sig;
 use program_code::{Parts, Program};
 use source_sink::Lists;
 use statement_graph::StatementLists;
@@ -66,15 +67,15 @@ fn parts_of(
     })
 }
 
-/// The program of the classes and the lists, entered at the method that is declared under the signature.
+/// The program of the classes and the lists, entered where the entry leads.
 ///
-/// An error is the first fault: that no method with a body is declared so, or that there are too many fields; or want of
-/// memory. The table is gone then.
+/// An error is the first fault: that the classes can't be entered there, or that there are too many fields; or want of memory.
+/// The table is gone then.
 pub fn assemble(
     alloc: Global,
     table: ClassTable,
     lists: &Lists,
-    entry: &Sig,
+    entry: &Entry,
 ) -> Result<Program, Stop>
     ensures ok { IfOk result (IsProgram table lists.now entry.now) }
     ensures one { IfOk result (λ p. (q : App) → IsProgram table lists.now entry.now q → q ≡ p) }
@@ -84,9 +85,7 @@ pub fn assemble(
 {
     // What is known of the classes: they are well formed, and have few methods and statements.
     let _classes = table.given();
-    let Some(root) = table.find_method(entry) else {
-        return Err(Stop::Fault(InputFault::EntryMissing));
-    };
+    let root = root_of(alloc, &table, entry)?;
     let fields = FieldTable::new(alloc, &table)?;
     match parts_of(alloc, table, lists, fields, root) {
         Ok(parts) => Ok(Program::new(parts)),

@@ -15,9 +15,9 @@ use Rattle.jimple_tree.specs.declared.tree.Sig.{Sig}
 use Rattle.source_sink.specs.declared.line.Kind.{Kind}
 use Rattle.source_sink.specs.declared.line.Line.{Line}
 use Rattle.class_table.proofs.Once.{insert_new}
-use Rattle.call_graph.specs.Calls.{IsKind, IsNeither, IsPlain, IsTargetOf}
+use Rattle.call_graph.specs.Calls.{IsKind, IsNeither, IsTargetOf}
 use Rattle.call_graph.specs.Floods.{AreOpenTargets}
-use Rattle.call_graph.specs.Known.{AreKnown, IsKnown, targets_by}
+use Rattle.call_graph.specs.Known.{AreKnown, IsKnown, sigs_of}
 use Rattle.call_graph.specs.declared.known.KnownSig.{KnownSig}
 
 -- where a signature is found
@@ -31,75 +31,87 @@ as_before P cs ds ls ms classes lines holds = subst (λ (x : List Class). P x ms
 early_or_last : (i n : ℕ) → i < n + 1 → (i < n) ⊎ (i ≡ n)
 early_or_last i n h = grind arith
 
+-- what holds of both kinds holds of the one that it is
+of_either : (P : InvokeKind → Type 0) (a b kind : InvokeKind) → (kind ≡ a) ⊎ (kind ≡ b) → P a → P b → P kind
+of_either P a b kind (inl same) one other = subst P (sym same) one
+of_either P a b kind (inr same) one other = subst P (sym same) other
+
 module _ (cs : List Class) (lines : List Line) where
-  module _ (sig : Sig) (said : Kind) (own below : List MethodId) (source : IsTrue said.source ↔ IsKind cs lines sig (λ (l : Line). l.source)) (sink : IsTrue said.sink ↔ IsKind cs lines sig (λ (l : Line). l.sink)) where
-    abbrev pub known : KnownSig
-    known = record { said = said; own = own; below = below }
+  -- what the calls on the way give is all that is known
+  pub known_is : (kind : InvokeKind) (sig : Sig) (said : Kind) (targets : List MethodId) → IsTrue said.source ↔ IsKind cs lines sig (λ (l : Line). l.source) → IsTrue said.sink ↔ IsKind cs lines sig (λ (l : Line). l.sink)
+      → IsStrictlyIncreasing (map (λ (m : MethodId). m.0) targets) → ((n : MethodId) → Contains targets n ↔ (IsTargetOf cs kind sig n × IsNeither said)) → IsKnown cs lines kind sig (record { said = said; targets = targets })
+  known_is kind sig said targets source sink ascending exact = record {
+    source = source;
+    sink = sink;
+    ascending = ascending;
+    targets = λ n. (
+      (λ has. let both = (exact n).0 has in (both.0, record { no_source = λ s. both.1.no_source (source.1 s); no_sink = λ s. both.1.no_sink (sink.1 s) })),
+      (λ both. (exact n).1 (both.0, record { no_source = λ s. both.1.no_source (source.0 s); no_sink = λ s. both.1.no_sink (sink.0 s) })),
+    );
+  }
 
-    exact : (kind : InvokeKind) (ms : List MethodId) → ((n : MethodId) → Contains ms n ↔ (IsTargetOf cs kind sig n × IsNeither said))
-        → (n : MethodId) → Contains ms n ↔ (IsTargetOf cs kind sig n × IsPlain cs lines sig)
-    exact kind ms is n = (
-      (λ has. let both = (is n).0 has in (both.0, record { no_source = λ s. both.1.no_source (source.1 s); no_sink = λ s. both.1.no_sink (sink.1 s) })),
-      (λ both. (is n).1 (both.0, record { no_source = λ s. both.1.no_source (source.0 s); no_sink = λ s. both.1.no_sink (sink.0 s) })),
-    )
+  -- static calls come to what special ones come to, and those of interfaces to what virtual ones do
+  known_static : (sig : Sig) (k : KnownSig) → IsKnown cs lines kinds.Special sig k → IsKnown cs lines kinds.Static sig k
+  known_static sig k is = record { source = is.source; sink = is.sink; ascending = is.ascending; targets = is.targets }
 
-    -- what the calls on the way give is all that is known
-    pub known_is : IsStrictlyIncreasing (map (λ (m : MethodId). m.0) own) → ((n : MethodId) → Contains own n ↔ (IsTargetOf cs kinds.Special sig n × IsNeither said))
-        → IsStrictlyIncreasing (map (λ (m : MethodId). m.0) below) → ((n : MethodId) → Contains below n ↔ (IsTargetOf cs kinds.Virtual sig n × IsNeither said)) → IsKnown cs lines sig known
-    known_is own_up own_is below_up below_is = record { source = source; sink = sink; ascending = ascending; targets = targets } where
-      ascending : (kind : InvokeKind) → IsStrictlyIncreasing (map (λ (m : MethodId). m.0) (targets_by kind known))
-      ascending kinds.Static = own_up
-      ascending kinds.Special = own_up
-      ascending kinds.Virtual = below_up
-      ascending kinds.Interface = below_up
+  known_interface : (sig : Sig) (k : KnownSig) → IsKnown cs lines kinds.Virtual sig k → IsKnown cs lines kinds.Interface sig k
+  known_interface sig k is = record { source = is.source; sink = is.sink; ascending = is.ascending; targets = is.targets }
 
-      targets : (kind : InvokeKind) (n : MethodId) → Contains (targets_by kind known) n ↔ (IsTargetOf cs kind sig n × IsPlain cs lines sig)
-      targets kinds.Static = exact kinds.Static own own_is
-      targets kinds.Special = exact kinds.Special own own_is
-      targets kinds.Virtual = exact kinds.Virtual below below_is
-      targets kinds.Interface = exact kinds.Interface below below_is
+  -- what stands at a place is known of the signature there, for each kind of calls that is looked up so
+  module _ (own below : List Sig) (all : List KnownSig) (place : ℕ) (k : KnownSig) (is : get_or all place k ≡ k) where
+    abbrev pub IsKnownAt : InvokeKind → Type 0
+    IsKnownAt kind = (sig : Sig) → At (sigs_of kind (record { classes = cs; lines = lines; own = own; below = below })) place sig → IsKnown cs lines kind sig k
 
-  -- a call comes to what is known of its kind
-  pub open_targets : (call : Invoke) (k : KnownSig) → IsKnown cs lines call.sig k → AreOpenTargets cs lines call (targets_by call.kind k)
-  open_targets call k is n = ((λ has. let both = (is.targets call.kind n).0 has in record { target = both.0; plain = both.1 }), (λ o. (is.targets call.kind n).1 (o.target, o.plain)))
+    here : (kind : InvokeKind) (sigs : List Sig) → AreKnown cs lines kind sigs all → (sig : Sig) → At sigs place sig → IsKnown cs lines kind sig k
+    here kind sigs are sig at = are.each place sig k at (let long = are.long in let there = at.0 in omega (arith, long, there), is)
 
-  module _ (sigs : List Sig) (all : List KnownSig) (sig : Sig) (k : KnownSig) (are : AreKnown cs lines sigs all) (is : IsKnown cs lines sig k) where
+    pub own_at : (kind : InvokeKind) → (kind ≡ kinds.Static) ⊎ (kind ≡ kinds.Special) → AreKnown cs lines kinds.Special own all → IsKnownAt kind
+    own_at kind of are = of_either IsKnownAt kinds.Static kinds.Special kind of (λ sig at. known_static sig k (here kinds.Special own are sig at)) (here kinds.Special own are)
+
+    pub below_at : (kind : InvokeKind) → (kind ≡ kinds.Virtual) ⊎ (kind ≡ kinds.Interface) → AreKnown cs lines kinds.Virtual below all → IsKnownAt kind
+    below_at kind of are = of_either IsKnownAt kinds.Virtual kinds.Interface kind of (here kinds.Virtual below are) (λ sig at. known_interface sig k (here kinds.Virtual below are sig at))
+
+  -- an open call comes to what is known of it
+  pub open_targets : (call : Invoke) (k : KnownSig) → IsKnown cs lines call.kind call.sig k → AreOpenTargets cs lines call k.targets
+  open_targets call k is n = ((λ has. let both = (is.targets n).0 has in record { target = both.0; plain = both.1 }), (λ o. (is.targets n).1 (o.target, o.plain)))
+
+  module _ (kind : InvokeKind) (sigs : List Sig) (all : List KnownSig) (sig : Sig) (k : KnownSig) (are : AreKnown cs lines kind sigs all) (is : IsKnown cs lines kind sig k) where
     abbrev pub front : List KnownSig
     front = take (length sigs) all
 
     front_long : length front ≡ length sigs
     front_long = length-take-le (length sigs) all are.long
 
-    early : (i : ℕ) (s : Sig) (other : KnownSig) → At sigs i s → At (front ++ k ∷ []) i other → IsKnown cs lines s other
+    early : (i : ℕ) (s : Sig) (other : KnownSig) → At sigs i s → At (front ++ k ∷ []) i other → IsKnown cs lines kind s other
     early i s other at (below, same) =
         let less : i < length front = let long = front_long in let there = at.0 in omega (arith, long, there) in
         let in_all : i < length all = let long = are.long in let there = at.0 in omega (arith, long, there) in
         are.each i s other at (in_all, sym (get_or-take (length sigs) all i other at.0) ∙ sym (get_or_append_left front (k ∷ []) other i less) ∙ same)
 
     -- it is known, but its signature isn't there
-    pub left_over : AreKnown cs lines sigs (front ++ k ∷ [])
+    pub left_over : AreKnown cs lines kind sigs (front ++ k ∷ [])
     left_over = record {
       long = let a = length-append front (k ∷ []) in let b = front_long in omega (arith, a, b);
       each = early;
     }
 
     -- both are
-    pub one_more : AreKnown cs lines (sigs ++ sig ∷ []) (front ++ k ∷ [])
+    pub one_more : AreKnown cs lines kind (sigs ++ sig ∷ []) (front ++ k ∷ [])
     one_more = record {
       long = let a = length-append front (k ∷ []) in let b = front_long in let c = length-append sigs (sig ∷ []) in omega (arith, a, b, c);
       each = λ i s other at has. by i s other at has (early_or_last i (length sigs) (let c = length-append sigs (sig ∷ []) in let there = at.0 in omega (arith, c, there)));
     } where
-      by : (i : ℕ) (s : Sig) (other : KnownSig) → At (sigs ++ sig ∷ []) i s → At (front ++ k ∷ []) i other → (i < length sigs) ⊎ (i ≡ length sigs) → IsKnown cs lines s other
+      by : (i : ℕ) (s : Sig) (other : KnownSig) → At (sigs ++ sig ∷ []) i s → At (front ++ k ∷ []) i other → (i < length sigs) ⊎ (i ≡ length sigs) → IsKnown cs lines kind s other
       by i s other at has (inl less) = early i s other (less, sym (get_or_append_left sigs (sig ∷ []) s i less) ∙ at.1) has
       by i s other at has (inr last) =
           let s_is : sig ≡ s = sym (get_or_push sigs sig s i (sym last)) ∙ at.1 in
           let k_is : k ≡ other = sym (get_or_push front k other i (front_long ∙ sym last)) ∙ has.1 in
-          subst (λ (t : Sig). IsKnown cs lines t other) s_is (subst (IsKnown cs lines sig) k_is is)
+          subst (λ (t : Sig). IsKnown cs lines kind t other) s_is (subst (IsKnown cs lines kind sig) k_is is)
 
     -- whether there was memory for the signature or not
-    pub kept_known : {A E : Type 0} (r : Result A E) (new : List Sig) → (Contains sigs sig → ⊥) → OnOk r (new ≡ insert_key same_sig sigs sig) → OnErr r (new ≡ sigs) → AreKnown cs lines new (front ++ k ∷ [])
-    kept_known (Ok a) new lacks is_new same = subst (λ (ss : List Sig). AreKnown cs lines ss (front ++ k ∷ [])) (sym (is_new ∙ insert_new same_sig sigs_decide sigs sig lacks)) one_more
-    kept_known (Err e) new lacks is_new same = subst (λ (ss : List Sig). AreKnown cs lines ss (front ++ k ∷ [])) (sym same) left_over
+    pub kept_known : {A E : Type 0} (r : Result A E) (new : List Sig) → (Contains sigs sig → ⊥) → OnOk r (new ≡ insert_key same_sig sigs sig) → OnErr r (new ≡ sigs) → AreKnown cs lines kind new (front ++ k ∷ [])
+    kept_known (Ok a) new lacks is_new same = subst (λ (ss : List Sig). AreKnown cs lines kind ss (front ++ k ∷ [])) (sym (is_new ∙ insert_new same_sig sigs_decide sigs sig lacks)) one_more
+    kept_known (Err e) new lacks is_new same = subst (λ (ss : List Sig). AreKnown cs lines kind ss (front ++ k ∷ [])) (sym same) left_over
 
 -- the last item
 pub last_at : (sigs : List Sig) (sig : Sig) → At (sigs ++ sig ∷ []) (length sigs) sig

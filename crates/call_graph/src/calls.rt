@@ -40,6 +40,10 @@ pub fn kind_of(
     ensures sink { IfOk result (λ kind. IsTrue kind.sink ↔ IsKind table.now lists.now sig.now (λ (l : Line). l.sink)) }
 {
     let own = lists.kind(&sig.class, sig);
+    // Most signatures have a name of which no line speaks: for them no class is looked at.
+    if !lists.names(&sig.name) {
+        return Ok(own);
+    }
     let Some(class) = table.find(&sig.class) else {
         return Ok(own);
     };

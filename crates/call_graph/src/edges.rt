@@ -80,8 +80,9 @@ fn add_targets(
     ensures lines { known.new.lines ≡ known.old.lines }
     ensures added { OnOk result ((targets : List MethodId) × AreOpenTargets known.old.classes known.old.lines call.now targets × (calls.new.items ≡ calls.old.items ++ map (edge_to caller place) targets)) }
 {
-    let number = known.know(alloc, &call.sig)?;
-    add_edges(calls, caller, place, known.at(number).targets(call.kind))
+    let number = known.know(alloc, call.kind, &call.sig)?;
+    let sig = known.at(call.kind, number);
+    add_edges(calls, caller, place, sig.targets.as_slice())
 }
 
 // Adds the open calls of the statement at a place.

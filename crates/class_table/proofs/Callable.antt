@@ -28,12 +28,12 @@ of_signature c m sig same = sym (ap (λ (s : Sig). let t : Sig = record { class 
 
 module _ (cs : List Class) (formed : All IsWellFormed cs) (names : HaveNames cs) (sig : Sig) where
   -- such a method stands in the class at that place
-  in_class : (p : ℕ) (name : List ℕ) (d : Class) (m : Method) → At (class_names cs) p name → HasCallable cs sig name d m → At cs p d
+  pub in_class : (p : ℕ) (name : List ℕ) (d : Class) (m : Method) → At (class_names cs) p name → HasCallable cs sig name d m → At cs p d
   in_class p name d m at has = by (given_is cs name d has.class) where
     by : Contains cs d × (d.name ≡ name) → At cs p d
     by ((q, below, is), named) = subst (λ (i : ℕ). At cs i d) (class_there cs formed names q p d name (below, is) at named) (below, is)
 
-  named_at : (p : ℕ) → p < length (class_names cs) → At (class_names cs) p (name_at cs p)
+  pub named_at : (p : ℕ) → p < length (class_names cs) → At (class_names cs) p (name_at cs p)
   named_at p below = (below, get_or_default (class_names cs) p (name_at cs p) [] below)
 
   -- no class has the name

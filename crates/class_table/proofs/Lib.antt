@@ -1,9 +1,11 @@
 pub mod Along
+pub mod Asked
 pub mod Callable
 pub mod Doubles
 pub mod Exact
 pub mod Faulty
 pub mod First
+pub mod Holding
 pub mod Linked
 pub mod Marked
 pub mod Named

@@ -35,6 +35,23 @@ module _ {X Y : Type 0} (f : X → List Y) where
         let long = length-append (f x) (flat_map f (take p xs)) in
         (suc p, z, j, ((omega (arith, below)), there), here, omega (arith, number, long, past))
 
+  -- and of one part alone
+  pub one_part : (xs : List X) (p q i j : ℕ) (x y : X) → At xs p x → At xs q y → i < length (f x) → j < length (f y) → length (flat_map f (take p xs)) + i ≡ length (flat_map f (take q xs)) + j → p ≡ q
+  one_part [] p q i j x y at there mine its same = absurd (let below = at.0 in omega (arith, below))
+  one_part (z ∷ zs) zero zero i j x y at there mine its same = refl
+  one_part (z ∷ zs) zero (suc q) i j x y at there mine its same =
+      let own = ap (λ (w : X). length (f w)) at.1 in
+      let long = length-append (f z) (flat_map f (take q zs)) in
+      absurd (omega (arith, own, long, mine, same))
+  one_part (z ∷ zs) (suc p) zero i j x y at there mine its same =
+      let own = ap (λ (w : X). length (f w)) there.1 in
+      let long = length-append (f z) (flat_map f (take p zs)) in
+      absurd (omega (arith, own, long, its, same))
+  one_part (z ∷ zs) (suc p) (suc q) i j x y (below, is) (within, was) mine its same =
+      let one = length-append (f z) (flat_map f (take p zs)) in
+      let other = length-append (f z) (flat_map f (take q zs)) in
+      ap (λ (n : ℕ). suc n) (one_part zs p q i j x y ((omega (arith, below)), is) ((omega (arith, within)), was) mine its (omega (arith, one, other, same)))
+
 module _ {X : Type 0} (test : X → Bool) where
   pub filter_at : (xs : List X) (k : ℕ) (x : X) → At xs k x → test x ≡ true → At (filter test xs) (length (filter test (take k xs))) x
   filter_at [] k x at passes = absurd (let below = at.0 in omega (arith, below))

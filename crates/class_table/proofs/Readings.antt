@@ -1,6 +1,6 @@
 -- What a table reads of its parts.
 use Rattle.std.proofs.Common.{◌≡◌, ◌↔◌, ◌<◌, ◌≤◌, ◌⊎◌, inl, inr, ℕ, Bool, true, false, IsTrue, List, length, get_or, Some, None, refl, sym, ap, subst, ◌∙◌, arith, true≢false}
-use Rattle.std.specs.Prelude.{Option, MatchOption, IfSome, IfNone}
+use Rattle.std.specs.Prelude.{Option, Contains, MatchOption, IfSome, IfNone}
 use Rattle.std.specs.List.{HoldsAt}
 use Rattle.std.specs.Borrow.{Bor}
 use Rattle.clean_base.specs.Lists.{At}
@@ -12,8 +12,8 @@ use Rattle.class_table.specs.Faults.{HaveNames}
 use Rattle.class_table.specs.Hierarchy.{class_names, given, heading, IsSubtype}
 use Rattle.class_table.specs.Links.{name_at, AreRows}
 use Rattle.class_table.specs.Marks.{AreMarked}
-use Rattle.class_table.proofs.Doubles.{own_number}
-use Rattle.class_table.proofs.Linked.{name_is, at_name, one_number, reach_names, reach_numbers}
+use Rattle.class_table.proofs.Doubles.{own, own_known, own_number}
+use Rattle.class_table.proofs.Linked.{map_has, name_is, at_name, one_number, reach_names, reach_numbers}
 use Rattle.class_table.proofs.Named.{given_is, given_own}
 
 -- a test of a limit that fails
@@ -31,6 +31,15 @@ pub given_at : (cs : List Class) → HaveNames cs → (i : ℕ) (c : Class) → 
 given_at cs names i c below is =
     let named : name_at cs i ≡ c.name = name_is cs i c.name (own_number cs names i c below is) in
     ap (given cs) named ∙ given_own cs names c (i, below, sym is)
+
+-- under a name without a number none is
+pub not_given : (cs : List Class) (name : List ℕ) → (Contains (class_names cs) name → ⊥) → given cs name ≡ None
+not_given cs name unknown = by (given cs name) refl where
+  by : (o : Option Class) → given cs name ≡ o → given cs name ≡ None
+  by None none = none
+  by (Some c) some =
+      let is = given_is cs name c some in
+      absurd (unknown (own_known cs name (subst (Contains (own cs)) is.1 (map_has (λ (d : Class). d.name) cs c is.0))))
 
 -- and behind the classes none is
 pub given_past : (cs : List Class) → HaveNames cs → (i : ℕ) → i < length (class_names cs) → length cs ≤ i → given cs (name_at cs i) ≡ None

@@ -1,5 +1,5 @@
 -- What a table keeps of the methods of its classes. The public contracts don't cite this.
-use Rattle.std.specs.Prelude.{◌≡◌, ◌<◌, ℕ, false, List, length, map, is_some, Option, Some, None}
+use Rattle.std.specs.Prelude.{◌≡◌, ◌<◌, ◌+◌, ℕ, false, List, length, map, take, flat_map, is_some, Option, Some, None}
 use Rattle.clean_base.specs.Lists.{At}
 use Rattle.clean_base.specs.declared.ids.MethodId.{MethodId}
 use Rattle.jimple_tree.specs.declared.tree.Class.{Class}
@@ -8,6 +8,7 @@ use Rattle.name_index.specs.Index.{IsIndex}
 use Rattle.class_table.specs.Index.{name_of}
 use Rattle.class_table.specs.Methods.{all_methods, IsNumber}
 use Rattle.class_table.specs.declared.members.ClassMembers.{ClassMembers}
+use Rattle.class_table.specs.declared.members.Holders.{Holders}
 use Rattle.class_table.specs.declared.members.Members.{Members}
 use Rattle.class_table.specs.declared.members.Place.{Place}
 
@@ -42,9 +43,20 @@ pub record ArePlaces (cs : List Class) (count : ℕ) (places : List Place) : Typ
   pub counted : length places ≡ count
   pub each : (n : ℕ) (place : Place) → At places n place → (c : Class) × (m : Method) × StandsAt cs place c m × At (all_methods cs) n (c, m)
 
+-- the names of all methods, one class behind the other
+abbrev pub method_names : List Class → List (List ℕ)
+method_names cs = flat_map (λ (c : Class). map name_of c.methods) cs
+
+-- the index of the first so many of these names, and for each the place of its class
+pub record AreHolders (cs : List Class) (count : ℕ) (h : Holders) : Type 0 where
+  pub index : IsIndex (take count (method_names cs)) h.names
+  pub counted : length h.owners.items ≡ count
+  pub owners : (k at : ℕ) → At h.owners.items k at → (c : Class) × (i : ℕ) × At cs at c × (i < length c.methods) × (k ≡ length (method_names (take at cs)) + i)
+
 pub record AreMembers (cs : List Class) (members : Members) : Type 0 where
   pub owns : AreOwn cs (length cs) members.classes.items
   pub places : ArePlaces cs (length (all_methods cs)) members.places.items
+  pub holders : AreHolders cs (length (method_names cs)) members.holders
 
 -- some class has a number at this place
 abbrev pub HasPlace : Members → Place → Type 0

@@ -43,7 +43,8 @@ fn stmts_of_methods(methods: &[Method]) -> usize
     total
 }
 
-fn stmts_of_classes(classes: &[Class]) -> usize
+/// The statements of all bodies, or the highest number where they are more.
+pub fn stmts_of_classes(classes: &[Class]) -> usize
     ensures { result ≡ min (length (stmts_in classes.now)) (2 ^ 64 - 1) }
 {
     let mut total: usize = 0;

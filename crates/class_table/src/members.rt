@@ -1,6 +1,6 @@
 // The methods of all classes by number and by signature (docs/FLOW-RULES.md, "Classes"). The methods of one class by name
 // stand below; the resolution of calls above.
-ghost use Rattle.std.specs.Prelude.{◌≡◌, ◌↔◌, ◌<◌, ◌≤◌, ◌+◌, ◌++◌, ◌∷◌, [], cond, is_some, length, take, All, IfOk, OnOk, None, Some};
+ghost use Rattle.std.specs.Prelude.{◌≡◌, ◌↔◌, ◌<◌, ◌≤◌, ◌+◌, ◌++◌, ◌∷◌, List, [], cond, is_some, length, take, All, IfOk, OnOk, None, Some};
 ghost use Rattle.clean_base.specs.Limits.{most_methods};
 ghost use Rattle.clean_base.specs.Lists.{At};
 ghost use Rattle.clean_base.specs.declared.ids.MethodId.{MethodId};
@@ -10,7 +10,7 @@ ghost use Rattle.jimple_tree.specs.declared.tree.Method.{Method};
 ghost use Rattle.class_table.specs.Faults.{IsTable};
 ghost use Rattle.class_table.specs.Hierarchy.{class_names};
 ghost use Rattle.class_table.specs.Methods.{all_methods, IsDeclared, IsNumber};
-ghost use Rattle.class_table.specs.Members.{AreMembers, AreNumbers, ArePlaces, HasPlace, IsMember, IsNumberAt, method_id};
+ghost use Rattle.class_table.specs.Members.{AreHolders, AreMembers, AreNumbers, ArePlaces, HasPlace, IsMember, IsNumberAt, method_id, method_names};
 
 use crate::index::{find, index_of};
 use crate::names::number_of;
@@ -34,11 +34,19 @@ pub struct ClassMembers {
     pub numbers: Vec<Option<MethodId>>,
 }
 
-/// The methods of classes: those of each class, and the place of each that has a body.
+/// All methods by name, one class behind the other, and of each the place of its class.
+#[derive(Debug, Drop)]
+pub struct Holders {
+    pub names: NameIndex,
+    pub owners: Vec<usize>,
+}
+
+/// The methods of classes: those of each class, the place of each that has a body, and which classes have one of a name.
 #[derive(Debug, Drop)]
 pub struct Members {
     pub classes: Vec<ClassMembers>,
     pub places: Vec<Place>,
+    pub holders: Holders,
 }
 
 // Adds the number of a method at this place, and where it has a body its place.
@@ -102,6 +110,41 @@ fn members_of(
     Ok(ClassMembers { index, numbers })
 }
 
+impl Holders {
+    fn new(alloc: Global) -> Holders
+        ensures { (cs : List Class) → AreHolders cs 0 result }
+    {
+        Holders {
+            names: NameIndex::new(alloc),
+            owners: Vec::new(alloc),
+        }
+    }
+
+    // Adds the methods of the next class.
+    fn add(&mut self, alloc: Global, classes: &[Class], at: usize) -> Result<(), AllocError>
+        requires class { at < length classes.now }
+        requires before { AreHolders classes.now (length (method_names (take at classes.now))) self.old }
+        ensures { OnOk result (AreHolders classes.now (length (method_names (take (at + 1) classes.now))) self.new) }
+    {
+        for method in classes[at].methods.as_slice() {
+            self.names.add(alloc, &method.name, self.owners.len())?;
+            self.owners.push(at)?;
+        }
+        Ok(())
+    }
+}
+
+// Which classes have methods of a name.
+fn holders_of(alloc: Global, classes: &[Class]) -> Result<Holders, AllocError>
+    ensures { IfOk result (AreHolders classes.now (length (method_names classes.now))) }
+{
+    let mut holders = Holders::new(alloc);
+    for at in 0..classes.len() {
+        holders.add(alloc, classes, at)?;
+    }
+    Ok(holders)
+}
+
 impl Members {
     /// The methods of these classes.
     pub fn new(alloc: Global, classes: &[Class]) -> Result<Members, AllocError>
@@ -116,6 +159,7 @@ impl Members {
         Ok(Members {
             classes: owns,
             places,
+            holders: holders_of(alloc, classes)?,
         })
     }
 

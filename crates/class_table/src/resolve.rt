@@ -1,6 +1,6 @@
 // Which method a call of a class and a signature comes to (docs/FLOW-RULES.md, "Resolution"). The methods of classes by number
 // and by signature, the graphs of the hierarchy and what stands first along them stand below; the table above.
-ghost use Rattle.std.specs.Prelude.{◌≡◌, ◌↔◌, ◌<◌, ◌∷◌, ℕ, List, [], length, All, IfOk, IsTrue, None, Some};
+ghost use Rattle.std.specs.Prelude.{◌≡◌, ◌↔◌, ◌<◌, ◌∷◌, ℕ, List, [], length, replicate, All, IfOk, IsTrue, None, Some};
 ghost use Rattle.clean_base.specs.Lists.{At};
 ghost use Rattle.clean_base.specs.declared.ids.ClassId.{ClassId};
 ghost use Rattle.clean_base.specs.declared.ids.MethodId.{MethodId};
@@ -52,6 +52,13 @@ fn callable(classes: &[Class], members: &Members, number: usize, sig: &Sig) -> O
     })
 }
 
+// No place for each of so many names.
+fn no_places(alloc: Global, count: usize) -> Result<Vec<Option<Place>>, AllocError>
+    ensures { IfOk result (λ v. v.items ≡ replicate count None) }
+{
+    vec![in alloc; None; count]
+}
+
 // For each name where its own class has it.
 fn own_places(
     alloc: Global,
@@ -66,9 +73,11 @@ fn own_places(
     requires count { count ≡ length (class_names classes.now) }
     ensures { IfOk result (λ v. AreOwn classes.now sig.now v.items) }
 {
-    let mut places = Vec::new(alloc);
-    for number in 0..count {
-        places.push(callable(classes, members, number, sig))?;
+    let mut places = no_places(alloc, count)?;
+    // Only a class that has a method of the name may have the one that is looked for.
+    for method in members.holders.names.places(&sig.name) {
+        let class = members.holders.owners[*method];
+        places[class] = callable(classes, members, class, sig);
     }
     Ok(places)
 }

@@ -11,10 +11,10 @@ ghost use Rattle.class_table.specs.Concrete.{IsConcrete};
 ghost use Rattle.class_table.specs.Faults.{IsFault, IsOnly, IsTable, Refused};
 ghost use Rattle.class_table.specs.Hierarchy.{class_names, given, IsSubtype};
 ghost use Rattle.class_table.specs.Links.{name_at};
-ghost use Rattle.class_table.specs.Methods.{all_methods, IsDeclared, IsNumber};
+ghost use Rattle.class_table.specs.Methods.{all_methods, stmts_in, IsDeclared, IsNumber};
 ghost use Rattle.class_table.specs.Resolving.{Resolves};
 
-use crate::limits::{has_few_methods, has_few_stmts};
+use crate::limits::{has_few_methods, has_few_stmts, stmts_of_classes};
 use crate::links::Links;
 use crate::marks::{above, below};
 use crate::members::{Members, find_method, method, owner};
@@ -106,7 +106,8 @@ impl ClassTable {
 
     /// The number of a name, where a class has it or names it in its heading.
     pub fn find(&self, name: &Name) -> Option<ClassId>
-        ensures { (c : ClassId) → (result ≡ Some c) ↔ At (class_names self.now) c.0 name.now }
+        ensures found { (c : ClassId) → (result ≡ Some c) ↔ At (class_names self.now) c.0 name.now }
+        ensures given { IfNone result (given self.now name.now ≡ None) }
     {
         match number_of(&self.names, name) {
             Some(number) => Some(ClassId(number)),
@@ -181,6 +182,13 @@ impl ClassTable {
         ensures { result ≡ length (all_methods self.now) }
     {
         self.members.count()
+    }
+
+    /// How many statements all bodies have.
+    pub fn stmts(&self) -> u32
+        ensures { result ≡ length (stmts_in self.now) }
+    {
+        stmts_of_classes(self.classes.as_slice()) as u32
     }
 
     /// The method with a body that is declared under this signature.

@@ -63,9 +63,6 @@ pub enum InputFault {
     /// The classes declare and name more fields than there is room for.
     #[error("too many fields")]
     LimitFields,
-    /// The file has a form that isn't built yet.
-    #[error("form not built yet")]
-    NotYet { file: u32 },
     /// A line of a trace that isn't allowed there.
     #[error("trace line {line} not valid")]
     BadTrace { file: u32, line: u64 },

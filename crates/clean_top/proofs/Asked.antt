@@ -1,116 +1,143 @@
--- Words of a form ask for one thing.
-use Rattle.std.proofs.Common.{◌≡◌, ◌≤◌, ◌<◌, ◌+◌, ◌-◌, ℕ, false, not, nat_eq, List, [], ◌∷◌, length, take, drop, get_or, codes, All, sym, ◌∙◌, subst, ap, arith}
-use Rattle.std.proofs.lemmas.List.{take_all, take_rest}
-use Rattle.std.proofs.lemmas.List.Elements.{All-more}
-use Rattle.std.proofs.lemmas.Bool.{not-false}
+-- Words ask for one command at most, and it fits.
+use Rattle.std.proofs.Common.{◌≡◌, ◌≤◌, ◌+◌, ◌-◌, ◌^◌, ℕ, true, false, nat_eq, List, [], ◌∷◌, length, Option, Some, None, codes, refl, sym, ap, ◌∙◌, arith}
+use Rattle.std.proofs.lemmas.List.{length-append}
 use lib.Pointwise.{pointwise, bytes_decides}
-use Rattle.jimple_tree.specs.declared.tree.Sig.{Sig}
-use Rattle.source_sink.specs.Signature.{Spells}
-use Rattle.clean_top.specs.Words.{Asks, HasForm, IsFileName, IsTask, IsUsage}
+use Rattle.command_line.specs.Check.{AsksCheck}
+use Rattle.command_line.specs.Graph.{AsksGraph}
+use Rattle.command_line.specs.Main.{AsksMain}
+use Rattle.command_line.specs.Serial.{AsksSerial}
+use Rattle.command_line.specs.Tuning.{IsNumber, IsTuning}
+use Rattle.command_line.specs.Words.{Asks as AsksLine, Given, IsOnly, Text, words_of}
+use Rattle.command_line.specs.declared.input.Input.{Input}
+use Rattle.command_line.specs.declared.input.Root.{Root}
+use Rattle.command_line.specs.declared.input.Root.TheVariants as roots
+use Rattle.command_line.specs.declared.serial.Serial.{Serial as SerialWords}
+use Rattle.command_line.specs.declared.tuning.Tuning.{Tuning}
+use Rattle.clean_top.specs.Words.{Asks, AsksFor, Fits, IsTuned, IsUsage, lists_with, list_place, named_of, start_of}
 use Rattle.clean_top.specs.declared.task.Command.{Command}
 use Rattle.clean_top.specs.declared.task.Named.{Named}
 use Rattle.clean_top.specs.declared.task.Task.{Task}
-use Rattle.clean_top.specs.declared.task.Task.TheVariants.{Serial, Graph}
+use Rattle.clean_top.specs.declared.task.Task.TheVariants.{Check, Main, Graph, Serial}
 
--- what is so of each item, in a loop over them
-pub one_more : {X : Type 0} (P : X → Type 0) (xs : List X) (i : ℕ) (x : X) → i < length xs → x ≡ get_or xs i x → All P (take i xs) → P x → All P (take (i + 1) xs)
-one_more P xs i x below is all here = All-more P xs i x below all (subst P is here)
+abbrev command_of : Named → Task → Command
+command_of names task = record { names = names; task = task }
 
-pub all_taken : {X : Type 0} (P : X → Type 0) (xs : List X) (i : ℕ) → length xs ≤ i → All P (take i xs) → All P xs
-all_taken P xs i past all = subst (All P) (take_all i xs past) all
+-- what words ask for
+abbrev check_of : List Text → Command
+check_of files = command_of (record { classes = files; lists = [] }) Check
 
--- a word that was found to be no other
-pub word_is : (a b : List ℕ) → false ≡ not (pointwise nat_eq a b) → a ≡ b
-word_is a b is = (bytes_decides a b).0 (not-false (pointwise nat_eq a b) (sym is))
+abbrev main_of : Text → Command
+main_of file = command_of (record { classes = []; lists = file ∷ [] }) Main
 
--- five words and the rest
-pub five : (words : List (List ℕ)) → 5 ≤ length words → (a b c d e : List ℕ)
-    → a ≡ get_or words 0 a → b ≡ get_or words 1 b → c ≡ get_or words 2 c → d ≡ get_or words 3 d → e ≡ get_or words 4 e
-    → words ≡ a ∷ b ∷ c ∷ d ∷ e ∷ drop 5 words
-five [] long a b c d e of_a of_b of_c of_d of_e = absurd (omega (arith, long))
-five (v ∷ []) long a b c d e of_a of_b of_c of_d of_e = absurd (omega (arith, long))
-five (v ∷ w ∷ []) long a b c d e of_a of_b of_c of_d of_e = absurd (omega (arith, long))
-five (v ∷ w ∷ x ∷ []) long a b c d e of_a of_b of_c of_d of_e = absurd (omega (arith, long))
-five (v ∷ w ∷ x ∷ y ∷ []) long a b c d e of_a of_b of_c of_d of_e = absurd (omega (arith, long))
-five (v ∷ w ∷ x ∷ y ∷ z ∷ rest) long a b c d e of_a of_b of_c of_d of_e = λ i. sym of_a i ∷ sym of_b i ∷ sym of_c i ∷ sym of_d i ∷ sym of_e i ∷ rest
+abbrev graph_of : Input → Command
+graph_of input = command_of (named_of input) (Graph (start_of input.root))
 
-pub has_form : (words : List (List ℕ)) → 5 ≤ length words → (a b c d e : List ℕ)
-    → a ≡ get_or words 0 a → b ≡ get_or words 1 b → c ≡ get_or words 2 c → d ≡ get_or words 3 d → e ≡ get_or words 4 e
-    → b ≡ codes "--entry" → d ≡ codes "--lists" → IsFileName e → All IsFileName (take (length words - 5) (drop 5 words))
-    → 1 ≤ length (take (length words - 5) (drop 5 words)) → length (take (length words - 5) (drop 5 words)) ≤ 4096
-    → HasForm words a c e (take (length words - 5) (drop 5 words))
-has_form words long a b c d e of_a of_b of_c of_d of_e entry lists named each some few = record {
-  are = rw (take_rest words 5, sym entry, sym lists) (five words long a b c d e of_a of_b of_c of_d of_e);
-  list_named = named;
-  classes_named = each;
-  some = some;
-  few = few;
+abbrev serial_of : SerialWords → Command
+serial_of serial = command_of (named_of serial.input) (Serial (start_of serial.input.root) serial.tuning)
+
+module _ (words : List Text) where
+  -- the first word is the command's name
+  record Begins (name : Text) : Type 0 where
+    rest : List Text
+    is : words ≡ name ∷ rest
+
+  begins : {name : Text} {options : List Text} {Means : Given → Type 0} → AsksLine name options words Means → Begins name
+  begins asks = let gives = asks.gives in let line = gives.is_line in record { rest = words_of gives.line; is = line.words_are }
+
+  -- and is no other
+  clash : {a b : Text} → Begins a → Begins b → pointwise nat_eq a b ≡ false → ⊥
+  clash {a} {b} one two unlike =
+      let e = sym one.is ∙ two.is in
+      let same : a ≡ b = cc in
+      let both : true ≡ false = sym ((bytes_decides a b).1 same) ∙ unlike in
+      cc
+
+  -- the words of no command are of no form
+  pub unasked : ((files : List Text) → AsksCheck words files → ⊥) → ((file : Text) → AsksMain words file → ⊥) → ((input : Input) → AsksGraph words input → ⊥) → ((serial : SerialWords) → AsksSerial words serial → ⊥) → IsUsage words
+  unasked no_check no_main no_graph no_serial command asks = by command.task command.names asks where
+    by : (task : Task) (names : Named) → AsksFor words task names → ⊥
+    by Check names (asks, none) = no_check names.classes asks
+    by Main names (file, asks, are) = no_main file asks
+    by (Graph start) names (input, asks, begins_so, are) = no_graph input asks
+    by (Serial start tuning) names (serial, asks, begins_so, tuned, are) = no_serial serial asks
+
+  -- where they ask for one thing, they ask for no other
+  one_check : (files : List Text) → IsOnly (AsksCheck words) files → (other : Command) → Asks words other → other ≡ check_of files
+  one_check files only other asks = by other.task other.names asks where
+    by : (task : Task) (names : Named) → AsksFor words task names → command_of names task ≡ check_of files
+    by Check names (asks, none) = let same = only.only names.classes asks in λ i. record { names = record { classes = same i; lists = none i }; task = Check }
+    by Main names (file, asks, are) = absurd (clash (begins only.is) (begins asks) refl)
+    by (Graph start) names (input, asks, begins_so, are) = absurd (clash (begins only.is) (begins asks) refl)
+    by (Serial start tuning) names (serial, asks, begins_so, tuned, are) = absurd (clash (begins only.is) (begins asks) refl)
+
+  one_main : (file : Text) → IsOnly (AsksMain words) file → (other : Command) → Asks words other → other ≡ main_of file
+  one_main file only other asks = by other.task other.names asks where
+    by : (task : Task) (names : Named) → AsksFor words task names → command_of names task ≡ main_of file
+    by Main names (f, asks, are) = let same = only.only f asks in λ i. record { names = (are ∙ ap (λ (g : Text). let r : Named = record { classes = []; lists = g ∷ [] } in r) same) i; task = Main }
+    by Check names (asks, none) = absurd (clash (begins only.is) (begins asks) refl)
+    by (Graph start) names (input, asks, begins_so, are) = absurd (clash (begins only.is) (begins asks) refl)
+    by (Serial start tuning) names (serial, asks, begins_so, tuned, are) = absurd (clash (begins only.is) (begins asks) refl)
+
+  one_graph : (input : Input) → IsOnly (AsksGraph words) input → (other : Command) → Asks words other → other ≡ graph_of input
+  one_graph input only other asks = by other.task other.names asks where
+    by : (task : Task) (names : Named) → AsksFor words task names → command_of names task ≡ graph_of input
+    by (Graph start) names (i, asks, begins_so, are) = (λ k. record { names = are k; task = Graph (begins_so k) }) ∙ ap graph_of (only.only i asks)
+    by Check names (asks, none) = absurd (clash (begins only.is) (begins asks) refl)
+    by Main names (file, asks, are) = absurd (clash (begins only.is) (begins asks) refl)
+    by (Serial start tuning) names (serial, asks, begins_so, tuned, are) = absurd (clash (begins only.is) (begins asks) refl)
+
+  one_serial : (serial : SerialWords) → IsOnly (AsksSerial words) serial → (other : Command) → Asks words other → other ≡ serial_of serial
+  one_serial serial only other asks = by other.task other.names asks where
+    by : (task : Task) (names : Named) → AsksFor words task names → command_of names task ≡ serial_of serial
+    by (Serial start tuning) names (s, asks, begins_so, tuned, are) = (λ k. record { names = are k; task = Serial (begins_so k) (tuned k) }) ∙ ap serial_of (only.only s asks)
+    by Check names (asks, none) = absurd (clash (begins only.is) (begins asks) refl)
+    by Main names (file, asks, are) = absurd (clash (begins only.is) (begins asks) refl)
+    by (Graph start) names (input, asks, begins_so, are) = absurd (clash (begins only.is) (begins asks) refl)
+
+  -- the words ask for this command, and for no other
+  abbrev pub IsAsked : Command → Type 0
+  IsAsked command = Asks words command × ((other : Command) → Asks words other → other ≡ command)
+
+  pub check_asked : (files : List Text) → IsOnly (AsksCheck words) files → IsAsked (check_of files)
+  check_asked files only = ((only.is, refl), one_check files only)
+
+  pub main_asked : (file : Text) → IsOnly (AsksMain words) file → IsAsked (main_of file)
+  main_asked file only = ((file, only.is, refl), one_main file only)
+
+  pub graph_asked : (input : Input) → IsOnly (AsksGraph words) input → IsAsked (graph_of input)
+  graph_asked input only = ((input, only.is, refl, refl), one_graph input only)
+
+  pub serial_asked : (serial : SerialWords) → IsOnly (AsksSerial words) serial → IsAsked (serial_of serial)
+  serial_asked serial only = ((serial, only.is, refl, refl, refl), one_serial serial only)
+
+-- a program has so many lists
+count_of_lists : (root : Root) (lists : Text) → length (lists_with root lists) ≡ list_place (start_of root) + 1
+count_of_lists (roots.Entry sig) lists = refl
+count_of_lists (roots.Components file) lists = refl
+
+-- a number is in its range, and so is the default
+in_range : (lowest highest default : ℕ) → lowest ≤ default → default ≤ highest → (given : Option Text) (n : ℕ) → IsNumber lowest highest default given n → (lowest ≤ n) × (n ≤ highest)
+in_range lowest highest default low high None n is = (omega (arith, is, low), omega (arith, is, high))
+in_range lowest highest default low high (Some text) n is = (is.1, is.2)
+
+tuned_so : (given : Given) (tuning : Tuning) → IsTuning given tuning → IsTuned tuning
+tuned_so given tuning is = record {
+  k = in_range 1 8 5 (omega arith) (omega arith) (given.value (codes "k")) tuning.k is.k;
+  period = in_range 1 1_000_000 256 (omega arith) (omega arith) (given.value (codes "period")) tuning.period is.period;
+  max_edges = in_range 1 (2 ^ 64 - 2) (2 ^ 64 - 2) (omega arith) (omega arith) (given.value (codes "max-edges")) tuning.max_edges is.max_edges;
 }
 
-module _ (words : List (List ℕ)) where
-  -- words of no form ask for nothing
-  pub unformed : ((command signature list : List ℕ) (classes : List (List ℕ)) → HasForm words command signature list classes → ⊥) → IsUsage words
-  unformed none c asks = none asks.command asks.signature asks.list c.names.classes asks.form
-
-  module _ (command signature list : List ℕ) (classes : List (List ℕ)) (form : HasForm words command signature list classes) where
-    -- words have a form in one way
-    record Same (c s l : List ℕ) (cs : List (List ℕ)) : Type 0 where
-      of_command : c ≡ command
-      of_signature : s ≡ signature
-      of_list : l ≡ list
-      of_classes : cs ≡ classes
-
-    same : (c s l : List ℕ) (cs : List (List ℕ)) → HasForm words c s l cs → Same c s l cs
-    same c s l cs other =
-        let e = sym other.are ∙ form.are in
-        record { of_command = cc; of_signature = cc; of_list = cc; of_classes = cc }
-
-    spelled : (other : Command) (asks : Asks words other) → Spells asks.entry signature
-    spelled other asks = let places = same _ _ _ _ asks.form in subst (Spells asks.entry) places.of_signature asks.spelled
-
-    -- what stands in the place of the signature is none
-    pub unspelled : ((s : Sig) → Spells s signature → ⊥) → IsUsage words
-    unspelled none other asks = none asks.entry (spelled other asks)
-
-    module _ (entry : Sig) (only : (s : Sig) → Spells s signature → s ≡ entry) where
-      does : (other : Command) (asks : Asks words other) → IsTask command entry other.task
-      does other asks =
-          let places = same _ _ _ _ asks.form in
-          let from = subst (λ (s : Sig). IsTask asks.command s other.task) (only asks.entry (spelled other asks)) asks.is in
-          subst (λ (c : List ℕ). IsTask c entry other.task) places.of_command from
-
-      -- no command has this name
-      pub untasked : ((task : Task) → IsTask command entry task → ⊥) → IsUsage words
-      untasked none other asks = none other.task (does other asks)
-
-      one_task : (task other : Task) → IsTask command entry task → IsTask command entry other → other ≡ task
-      one_task (Serial e) (Serial f) is also = ap Serial (also.1 ∙ sym is.1)
-      one_task (Graph e) (Graph f) is also = ap Graph (also.1 ∙ sym is.1)
-      one_task (Serial e) (Graph f) is also = absurd (let clash : codes "serial" ≡ codes "graph" = sym is.0 ∙ also.0 in cc)
-      one_task (Graph e) (Serial f) is also = absurd (let clash : codes "graph" ≡ codes "serial" = sym is.0 ∙ also.0 in cc)
-
-      module _ (task : Task) (names : Named) (is : IsTask command entry task) (are : names ≡ record { classes = classes; lists = list ∷ [] }) where
-        abbrev asked : Command
-        asked = record { names = names; task = task }
-
-        pub asks_for : Spells entry signature → Asks words asked
-        asks_for spells =
-            let of_classes : names.classes ≡ classes = ap (λ (n : Named). n.classes) are in
-            record {
-              command = command;
-              signature = signature;
-              list = list;
-              form = subst (HasForm words command signature list) (sym of_classes) form;
-              entry = entry;
-              spelled = spells;
-              is = is;
-              lists = ap (λ (n : Named). n.lists) are;
-            }
-
-        pub asks_once : (other : Command) → Asks words other → other ≡ asked
-        asks_once other asks =
-            let places = same _ _ _ _ asks.form in
-            let of_lists : other.names.lists ≡ list ∷ [] = asks.lists ∙ ap (λ (l : List ℕ). l ∷ []) places.of_list in
-            let of_names : other.names ≡ names = (λ i. record { classes = places.of_classes i; lists = of_lists i }) ∙ sym are in
-            let of_task : other.task ≡ task = one_task task other.task is (does other asks) in
-            λ i. record { names = of_names i; task = of_task i }
+-- a report that words ask for fits
+module _ (words : List Text) where
+  pub serial_fits : (serial : SerialWords) → AsksSerial words serial → Fits (serial_of serial)
+  serial_fits serial asks =
+      let means = asks.means in
+      let names = means.input in
+      let are = names.are_files in
+      let input = serial.input in
+      record {
+        some = omega (arith, length-append input.classes (lists_with input.root input.lists), are.some);
+        classes = are.not_many;
+        lists = count_of_lists input.root input.lists;
+        tuned = tuned_so asks.given serial.tuning means.tuning;
+      }

@@ -1,4 +1,5 @@
 pub mod Answer
+pub mod Count
 pub mod Graph
 pub mod Meaning
 pub mod Reading

@@ -3,7 +3,7 @@ use Rattle.std.specs.Prelude.{◌≡◌, ℕ, ◌+◌, ◌-◌, ◌<◌, ◌^◌
 use Rattle.clean_base.specs.Device.{Rose}
 use Rattle.clean_base.specs.Limits.{class_room, list_room}
 use Rattle.clean_base.specs.declared.fault.InputFault.{InputFault}
-use Rattle.clean_base.specs.declared.fault.InputFault.TheVariants.{TooLong, BadByte, OpenText, Syntax, Unsupported, TooMany, DoubleName, UnknownLocal, UnknownLabel, BadLine, DoubleComponent, NotYet, BadTrace}
+use Rattle.clean_base.specs.declared.fault.InputFault.TheVariants.{TooLong, BadByte, OpenText, Syntax, Unsupported, TooMany, DoubleName, UnknownLocal, UnknownLabel, BadLine, DoubleComponent, BadTrace}
 use Rattle.clean_base.specs.declared.read.ReadStop.{ReadStop}
 use Rattle.clean_base.specs.declared.read.ReadStop.TheVariants as stops
 use Rattle.clean_stage.specs.Stage.{Stage, ◌>>=◌, done, test, before, fault, Comes}
@@ -70,7 +70,6 @@ file_of (UnknownLocal file at) = Some file
 file_of (UnknownLabel file at) = Some file
 file_of (BadLine file line) = Some file
 file_of (DoubleComponent file line) = Some file
-file_of (NotYet file) = Some file
 file_of (BadTrace file line) = Some file
 file_of _ = None
 

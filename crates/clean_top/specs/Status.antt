@@ -3,7 +3,7 @@ use Rattle.std.specs.Prelude.{ℕ, ◌-◌, List, [], ◌++◌, codes, decimal, 
 use Rattle.clean_base.specs.declared.fault.Form.{Form}
 use Rattle.clean_base.specs.declared.fault.Form.TheVariants.{Dynamic, Ret, Breakpoint, MethodConst}
 use Rattle.clean_base.specs.declared.fault.InputFault.{InputFault}
-use Rattle.clean_base.specs.declared.fault.InputFault.TheVariants.{TooLong, BadByte, OpenText, Syntax, Unsupported, TooMany, DoubleName, UnknownLocal, UnknownLabel, BadLine, DoubleComponent, LimitClasses, DoubleClass, Cycle, LimitMethods, LimitStmts, ComponentMissing, EntryMissing, LimitFields, NotYet, BadTrace}
+use Rattle.clean_base.specs.declared.fault.InputFault.TheVariants.{TooLong, BadByte, OpenText, Syntax, Unsupported, TooMany, DoubleName, UnknownLocal, UnknownLabel, BadLine, DoubleComponent, LimitClasses, DoubleClass, Cycle, LimitMethods, LimitStmts, ComponentMissing, EntryMissing, LimitFields, BadTrace}
 use Rattle.clean_top.specs.declared.status.Status.{Status}
 use Rattle.clean_top.specs.declared.status.Status.TheVariants.{Clean, Leaks, Usage, Input, EdgeLimit, ReadFault, WriteFault, OutOfMemory}
 
@@ -57,7 +57,6 @@ fault_text names LimitStmts = codes "too many statements"
 fault_text names (ComponentMissing name) = codes "component " ++ name ++ codes " not found"
 fault_text names EntryMissing = codes "entry method not found"
 fault_text names LimitFields = codes "too many fields"
-fault_text names (NotYet file) = file_word names file ++ codes ": form not built yet"
 fault_text names (BadTrace file line) = place_text (file_word names file) (codes "trace line ") line ++ codes " not valid"
 
 -- what is said of an end; of the whole output nothing is

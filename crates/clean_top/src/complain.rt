@@ -136,10 +136,6 @@ fn write_fault(line: &mut Vec<u8>, names: &Named, fault: &InputFault) -> Result<
         }
         InputFault::EntryMissing => write_whole(line, b"entry method not found"),
         InputFault::LimitFields => write_whole(line, b"too many fields"),
-        InputFault::NotYet { file } => {
-            line.extend_from_slice(file_of(names, *file).as_bytes())?;
-            line.extend_from_slice(b": form not built yet")
-        }
         InputFault::BadTrace { file, line: number } => {
             write_place_and(
                 line,

@@ -5,10 +5,13 @@
 #![tactic(auto)]
 
 mod complain;
+mod count;
 #[cfg(test)]
 mod devices;
 mod graph;
+pub mod input;
 mod output;
+mod print;
 mod read;
 mod serve;
 mod status;
@@ -22,4 +25,4 @@ pub use output::Output;
 pub use read::{Text, Texts};
 pub use serve::clean_plain;
 pub use status::Status;
-pub use task::{Command, Named, Task};
+pub use task::{Command, Named, Start, Task};

@@ -3,7 +3,7 @@ ghost use Rattle.std.specs.Prelude.{◌≡◌, ◌≤◌, List, ℕ, length, IfE
 ghost use Rattle.clean_top.specs.Answer.{Serves, IsRefused, Writes, Complains, run_of, halted};
 ghost use Rattle.clean_top.specs.Meaning.{means};
 ghost use Rattle.clean_top.specs.Reading.{Reads, IsHaltAmong};
-ghost use Rattle.clean_top.specs.Words.{Asks, AreNamed, HasFiles, IsUsage, in_order};
+ghost use Rattle.clean_top.specs.Words.{Asks, AreNamed, Fits, IsUsage, in_order};
 ghost use Rattle.clean_top.specs.declared.task.Command.{Command};
 
 use crate::complain::{MEMORY, USAGE, complain, say};
@@ -19,7 +19,7 @@ use std::alloc::Global;
 
 // Reads the files of a command, and does its work.
 fn answer<S: Shelf>(alloc: Global, command: &Command, shelf: &mut S) -> Result<Output, ReadHalt>
-    requires { HasFiles command.now }
+    requires { Fits command.now }
     ensures read { Reads (S.holds shelf.old) (S.faults shelf.old) (S.faults shelf.new) (in_order command.now.names) 0 (means command.now) result }
     ensures among { IfErr result (IsHaltAmong (length (in_order command.now.names))) }
     ensures same { (other : List ℕ) → S.holds shelf.new other ≡ S.holds shelf.old other }
@@ -55,7 +55,7 @@ fn write_out<K: Sink>(out: &mut K, output: &Output) -> Status
 
 // Serves a command, without a line on the error sink.
 fn serve<S: Shelf, K: Sink>(alloc: Global, command: &Command, shelf: &mut S, out: &mut K) -> Status
-    requires { HasFiles command.now }
+    requires { Fits command.now }
     ensures serves { Serves (run_of S.holds S.faults K.taken K.faults shelf.old shelf.new out.old out.new) command.now result }
     ensures same { (name : List ℕ) → S.holds shelf.new name ≡ S.holds shelf.old name }
 {

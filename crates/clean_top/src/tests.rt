@@ -268,7 +268,7 @@ fn refusals(rt: HostRuntime) -> Result<(), Fail> {
             "public class A extends java.lang.Object { public static void m() { return; } }",
             BAD_LIST,
             "<A: void n()>",
-            "clean: L: form not built yet\n",
+            "clean: L: line 1 not understood\n",
         ),
         (
             "public class A extends java.lang.Object { public static void m() { return; } }",
@@ -487,7 +487,7 @@ fn refused_graphs(rt: HostRuntime) -> Result<(), Fail> {
             "class A extends A { }",
             BAD_LIST,
             "",
-            "clean: L: form not built yet\n",
+            "clean: L: line 1 not understood\n",
             3,
         ),
         // A file that isn't there.
@@ -553,20 +553,137 @@ fn words_of_no_form(rt: HostRuntime) -> Result<(), Fail> {
             "A.jimple",
         ],
         &["graph", "--entry", "<A: void m()>", "--lists", "L"],
-        &[
-            "graph",
-            "--lists",
-            "L",
-            "--entry",
-            "<A: void m()>",
-            "A.jimple",
-        ],
+        &["main", "--components", "L", "A.jimple"],
     ];
     for words in shapes {
         let row = Row {
             words,
             err: "clean: usage: clean check, main, graph, serial, replay, solve or big, with its options and files\n",
             code: 2,
+            ..PLAIN
+        };
+        expect(&rt, rt.alloc(), &row)?;
+    }
+    Ok(())
+}
+
+#[test]
+fn components(rt: HostRuntime) -> Result<(), Fail> {
+    let receiver =
+        "class com.R { void <init>() { return; } void onReceive(android.content.Context,android.content.Intent) { com.R t; t := @this: com.R; staticinvoke <A: void m()>(); return; } }";
+    // The words, the component list, the output, the line on the error sink and the code. Edges from zero alone: in the
+    // generated method 7, in `<init>` 1, in `onReceive` 3, in `m` 3, and there 2 from i0.
+    let rows: [(&[&str], &str, &str, &str, u8); 6] = [
+        (
+            &["main", "--components", "F"],
+            "",
+            "public class dummyMainClass extends java.lang.Object\n{\n    public static void dummyMainMethod()\n    {\n        int i0;\n        i0 = 0;\n        return;\n    }\n}\n",
+            "",
+            0,
+        ),
+        (
+            &[
+                "serial",
+                "--components",
+                "F",
+                "--lists",
+                "L",
+                "A.jimple",
+                "B.jimple",
+            ],
+            "% the app\nreceiver com.R\n",
+            "leak <A: void m()>#1 from <A: void m()>#0 at i0\nedges 16\ncontexts 4\n",
+            "",
+            1,
+        ),
+        (
+            &[
+                "graph",
+                "--components=F",
+                "B.jimple",
+                "--lists=L",
+                "--",
+                "A.jimple",
+            ],
+            "receiver com.R",
+            "call <com.R: void onReceive(android.content.Context,android.content.Intent)>#1 to <A: void m()>\ncall <dummyMainClass: void dummyMainMethod()>#4 to <com.R: void <init>()>\ncall <dummyMainClass: void dummyMainMethod()>#5 to <com.R: void onReceive(android.content.Context,android.content.Intent)>\nmethods 4\n",
+            "",
+            0,
+        ),
+        (
+            &["graph", "--components", "F", "--lists", "L", "A.jimple"],
+            "receiver com.R",
+            "",
+            "clean: component com.R not found\n",
+            3,
+        ),
+        (
+            &["main", "--components", "F"],
+            "receiver com.R\nservice com.R",
+            "",
+            "clean: F: component given twice in line 2\n",
+            3,
+        ),
+        (
+            &["check", "A.jimple", "B.jimple"],
+            "",
+            "classes 2\nmethods 3\nstatements 7\n",
+            "",
+            0,
+        ),
+    ];
+    for (words, list, out, err, code) in rows {
+        let others = [("B.jimple", receiver), ("F", list)];
+        let row = Row {
+            words,
+            others: &others,
+            out,
+            err,
+            code,
+            ..PLAIN
+        };
+        expect(&rt, rt.alloc(), &row)?;
+    }
+    Ok(())
+}
+
+#[test]
+fn numbers(rt: HostRuntime) -> Result<(), Fail> {
+    // The further words, the output, the line on the error sink and the code.
+    let rows: [(&[&str], &str, &str, u8); 4] = [
+        (
+            &["--max-edges", "5"],
+            "leak <A: void m()>#1 from <A: void m()>#0 at i0\nedges 5\ncontexts 1\n",
+            "",
+            1,
+        ),
+        (
+            &["--max-edges=4", "--period=1"],
+            "",
+            "clean: edge limit 4 passed, 5 found\n",
+            3,
+        ),
+        (
+            &["--k", "01"],
+            "leak <A: void m()>#1 from <A: void m()>#0 at i0\nedges 5\ncontexts 1\n",
+            "",
+            1,
+        ),
+        (
+            &["--k", "9"],
+            "",
+            "clean: usage: clean check, main, graph, serial, replay, solve or big, with its options and files\n",
+            2,
+        ),
+    ];
+    for (further, out, err, code) in rows {
+        let mut words = Vec::from_slice(rt.alloc(), &WORDS)?;
+        words.extend_from_slice(further)?;
+        let row = Row {
+            words: words.as_slice(),
+            out,
+            err,
+            code,
             ..PLAIN
         };
         expect(&rt, rt.alloc(), &row)?;

@@ -1,75 +1,30 @@
 // From the texts of a command's files to its output, stage by stage.
 ghost use Rattle.std.specs.Prelude.{◌≡◌, ◌<◌, ◌^◌, All, IfOk, Ok, Err, length};
-ghost use Rattle.jimple_tree.specs.WellFormed.{IsWellFormed};
 ghost use Rattle.class_table.specs.Methods.{all_methods};
 ghost use Rattle.clean_stage.specs.Stage.{Comes};
-ghost use Rattle.clean_top.specs.Meaning.{assembled, of_commit, called, classes_in, classes_of, graphed, lines_of, reported, rooted, serially, tabled, work};
-ghost use Rattle.clean_top.specs.Reading.{text_at};
+ghost use Rattle.clean_top.specs.Meaning.{assembled, of_commit, called, checked, generated, graphed, reported, rooted, serially, work};
 ghost use Rattle.clean_top.specs.declared.read.Text.{Text};
-ghost use Rattle.clean_top.specs.Words.{lists_of};
+ghost use Rattle.clean_top.specs.Words.{IsTuned, IsTunedTask, list_place, lists_of};
 
+use crate::count::count;
 use crate::graph::draw;
+use crate::input::{Input, read_component_list, read_every_class, read_input, table_of};
 use crate::output::Output;
-use crate::read::{Text, Texts, text_at};
-use crate::task::Task;
-use app_program::assemble;
+use crate::print::print;
+use crate::read::{Texts, text_at};
+use crate::task::{Start, Task};
+use app_program::{assemble, root_of};
 use call_graph::CallGraph;
-use class_table::ClassTable;
-use clean_base::{InputFault, MethodId, Seq};
+use clean_base::MethodId;
 use clean_stage::{Halt, Refusal};
+use command_line::Tuning;
 use core_driver::finish;
-use jimple_text::read_classes;
-use jimple_tree::{Class, Sig};
+use dummy_main::make;
 use leak_report::{Report, write_report};
 use program_code::Program;
 use solver_core::{CommitStop, State};
-use source_sink::{Lists, read_lists};
-use std::alloc::{AllocError, Global};
+use std::alloc::Global;
 use taint_problem::TaintProblem;
-
-// A sweep is due after so many commits. Nothing is dropped yet, so it has no effect.
-const PERIOD: u64 = 256;
-
-// The most path edges.
-const EDGE_ROOM: u64 = 18446744073709551614;
-
-// A path keeps this many of its fields.
-const PATH_FIELDS: u8 = 5;
-
-// The classes of a class file.
-fn read_text(alloc: Global, text: &Text) -> Result<Seq<Class>, Halt>
-    requires { length text.now.bytes < 2 ^ 32 }
-    ensures comes { Comes (classes_of text.now) result }
-    ensures well_formed { IfOk result (All IsWellFormed) }
-{
-    let classes = read_classes(alloc, text.bytes.as_slice(), text.file)?;
-    Ok(Seq::from_vec(classes))
-}
-
-// The classes of all class files, in order.
-fn read_every_class(alloc: Global, texts: &[Text]) -> Result<Seq<Class>, Halt>
-    requires { All (λ (t : Text). length t.bytes < 2 ^ 32) texts.now }
-    ensures comes { Comes (classes_in texts.now) result }
-    ensures well_formed { IfOk result (All IsWellFormed) }
-{
-    let mut classes = Vec::new(alloc);
-    for text in texts {
-        let mut own = read_text(alloc, text)?.into_vec();
-        let Ok(()) = classes.append(&mut own) else {
-            return Err(Halt::OutOfMemory);
-        };
-    }
-    Ok(Seq::from_vec(classes))
-}
-
-// The lines of the first list.
-fn read_list(alloc: Global, texts: &[Text]) -> Result<Lists, Halt>
-    requires { 0 < length texts.now }
-    ensures { Comes (lines_of (text_at texts.now 0)) result }
-{
-    let list = text_at(texts, 0);
-    Ok(read_lists(alloc, list.bytes.as_slice(), list.file)?)
-}
 
 fn of_commit(stop: CommitStop) -> Halt
     ensures { result ≡ of_commit stop }
@@ -80,19 +35,20 @@ fn of_commit(stop: CommitStop) -> Halt
     }
 }
 
-// The program of the classes, entered at a method.
-fn program_of(alloc: Global, table: ClassTable, lists: &Lists, entry: &Sig) -> Result<Program, Halt>
-    ensures { Comes (assembled table lists.now entry.now) result }
+// The program of an input.
+fn program_of(alloc: Global, input: Input) -> Result<Program, Halt>
+    ensures { Comes (assembled input) result }
 {
-    Ok(assemble(alloc, table, lists, entry)?)
+    Ok(assemble(alloc, input.table, &input.lists, &input.entry)?)
 }
 
 // Solves a program.
-fn report_of(alloc: Global, program: &Program) -> Result<Output, Halt>
-    ensures { Comes (reported program.now) result }
+fn report_of(alloc: Global, program: &Program, tuning: Tuning) -> Result<Output, Halt>
+    requires { IsTuned tuning }
+    ensures { Comes (reported tuning program.now) result }
 {
-    let problem = TaintProblem::new(program, PATH_FIELDS);
-    let state = State::open(alloc, &problem, PERIOD, EDGE_ROOM, 1)?;
+    let problem = TaintProblem::new(program, tuning.k);
+    let state = State::open(alloc, &problem, tuning.period, tuning.max_edges, 1)?;
     let answer = match finish(alloc, state) {
         Ok(answer) => answer,
         Err(stop) => return Err(of_commit(stop)),
@@ -109,73 +65,77 @@ fn report_of(alloc: Global, program: &Program) -> Result<Output, Halt>
     Ok(Output { text, leaky })
 }
 
-// The table of the classes.
-fn table_of(alloc: Global, classes: Seq<Class>) -> Result<ClassTable, Halt>
-    requires { All IsWellFormed classes }
-    ensures { Comes (tabled classes) result }
-{
-    Ok(ClassTable::build(alloc, classes.into_vec())?)
-}
-
-// The report of the classes that are entered at this method.
-fn serial(alloc: Global, entry: &Sig, texts: &Texts) -> Result<Output, Halt>
+// The report of a program.
+fn serial(alloc: Global, start: &Start, tuning: Tuning, texts: &Texts) -> Result<Output, Halt>
     requires short { All (λ (t : Text). length t.bytes < 2 ^ 32) texts.now.classes }
-    requires list { 0 < length texts.now.lists }
-    ensures { Comes (serially entry.now texts.now) result }
+    requires lists { list_place start.now < length texts.now.lists }
+    requires tuned { IsTuned tuning }
+    ensures { Comes (serially start.now tuning texts.now) result }
 {
-    let classes = read_every_class(alloc, texts.classes.as_slice())?;
-    let lists = read_list(alloc, texts.lists.as_slice())?;
-    let table = table_of(alloc, classes)?;
-    let program = program_of(alloc, table, &lists, entry)?;
-    report_of(alloc, &program)
+    let input = read_input(alloc, start, texts)?;
+    let program = program_of(alloc, input)?;
+    report_of(alloc, &program, tuning)
 }
 
-// The method where the classes are entered.
-fn root_of(table: &ClassTable, entry: &Sig) -> Result<MethodId, Halt>
-    ensures comes { Comes (rooted table.now entry.now) result }
-    ensures within { IfOk result (λ m. m.0 < length (all_methods table.now)) }
+// The method where the classes of an input are entered.
+fn entered(alloc: Global, input: &Input) -> Result<MethodId, Halt>
+    ensures comes { Comes (rooted input.now) result }
+    ensures within { IfOk result (λ m. m.0 < length (all_methods input.now.table)) }
 {
-    match table.find_method(entry) {
-        Some(root) => Ok(root),
-        None => Err(Halt::of(InputFault::EntryMissing)),
-    }
+    Ok(root_of(alloc, &input.table, &input.entry)?)
 }
 
 // The graph of the open calls from the method on.
-fn calls_from(
-    alloc: Global,
-    table: &ClassTable,
-    lists: &Lists,
-    root: MethodId,
-) -> Result<CallGraph, Halt>
-    requires { root.0 < length (all_methods table.now) }
-    ensures { Comes (called table.now lists.now root) result }
+fn calls_from(alloc: Global, input: &Input, root: MethodId) -> Result<CallGraph, Halt>
+    requires { root.0 < length (all_methods input.now.table) }
+    ensures { Comes (called input.now root) result }
 {
-    Ok(call_graph::graph(alloc, table, lists, root)?)
+    Ok(call_graph::graph(alloc, &input.table, &input.lists, root)?)
 }
 
-// The graph of the classes that are entered at this method.
-fn graph(alloc: Global, entry: &Sig, texts: &Texts) -> Result<Output, Halt>
+// The graph of a program.
+fn graph(alloc: Global, start: &Start, texts: &Texts) -> Result<Output, Halt>
     requires short { All (λ (t : Text). length t.bytes < 2 ^ 32) texts.now.classes }
-    requires list { 0 < length texts.now.lists }
-    ensures { Comes (graphed entry.now texts.now) result }
+    requires lists { list_place start.now < length texts.now.lists }
+    ensures { Comes (graphed start.now texts.now) result }
+{
+    let input = read_input(alloc, start, texts)?;
+    let root = entered(alloc, &input)?;
+    let calls = calls_from(alloc, &input, root)?;
+    Ok(draw(alloc, &input.table, &calls)?)
+}
+
+// The numbers of the classes.
+fn check(alloc: Global, texts: &Texts) -> Result<Output, Halt>
+    requires { All (λ (t : Text). length t.bytes < 2 ^ 32) texts.now.classes }
+    ensures { Comes (checked texts.now) result }
 {
     let classes = read_every_class(alloc, texts.classes.as_slice())?;
-    let lists = read_list(alloc, texts.lists.as_slice())?;
     let table = table_of(alloc, classes)?;
-    let root = root_of(&table, entry)?;
-    let calls = calls_from(alloc, &table, &lists, root)?;
-    Ok(draw(alloc, &table, &calls)?)
+    Ok(count(alloc, &table)?)
+}
+
+// The class that is generated for the components of the first list.
+fn main(alloc: Global, texts: &Texts) -> Result<Output, Halt>
+    requires { 0 < length texts.now.lists }
+    ensures { Comes (generated texts.now) result }
+{
+    let components = read_component_list(alloc, text_at(texts.lists.as_slice(), 0))?;
+    let class = make(alloc, components.as_slice())?;
+    Ok(print(alloc, &class)?)
 }
 
 /// The work of a command on the texts of its files.
 pub fn work(alloc: Global, task: &Task, texts: &Texts) -> Result<Output, Halt>
     requires short { All (λ (t : Text). length t.bytes < 2 ^ 32) texts.now.classes }
     requires lists { length texts.now.lists ≡ lists_of task.now }
+    requires tuned { IsTunedTask task.now }
     ensures { Comes (work task.now texts.now) result }
 {
     match task {
-        Task::Serial { entry } => serial(alloc, entry, texts),
-        Task::Graph { entry } => graph(alloc, entry, texts),
+        Task::Check => check(alloc, texts),
+        Task::Main => main(alloc, texts),
+        Task::Graph { start } => graph(alloc, start, texts),
+        Task::Serial { start, tuning } => serial(alloc, start, *tuning, texts),
     }
 }

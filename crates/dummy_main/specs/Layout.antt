@@ -13,6 +13,7 @@ use Rattle.jimple_tree.specs.declared.tree.Local.{Local}
 use Rattle.jimple_tree.specs.declared.tree.Method.{Method}
 use Rattle.jimple_tree.specs.declared.tree.Place.TheVariants as place
 use Rattle.jimple_tree.specs.declared.tree.Rhs.TheVariants as rhs
+use Rattle.jimple_tree.specs.declared.tree.Sig.{Sig}
 use Rattle.jimple_tree.specs.declared.tree.Stmt.{Stmt}
 use Rattle.jimple_tree.specs.declared.tree.Stmt.TheVariants as stmt
 use Rattle.dummy_main.specs.declared.component.Component.{Component}
@@ -109,14 +110,18 @@ locals_from j (c ∷ cs) = local_at j c.name ∷ locals_from (j + 1) cs
 abbrev pub body_of : List Component → Body
 body_of cs = record { locals = record { ty = type_of Int; name = codes "i0" } ∷ locals_from 0 cs; stmts = statements cs; catches = [] }
 
+-- the signature of the generated method
+abbrev pub main_sig : Sig
+main_sig = record { class = codes "dummyMainClass"; result = type_of Void; name = codes "dummyMainMethod"; params = [] }
+
 abbrev pub main_of : List Component → Method
-main_of cs = record { modifiers = codes "public" ∷ codes "static" ∷ []; result = type_of Void; name = codes "dummyMainMethod"; params = []; throws = []; body = Some (body_of cs) }
+main_of cs = record { modifiers = codes "public" ∷ codes "static" ∷ []; result = main_sig.result; name = main_sig.name; params = main_sig.params; throws = []; body = Some (body_of cs) }
 
 abbrev pub class_of : List Component → Class
 class_of cs = record {
   modifiers = codes "public" ∷ [];
   is_interface = false;
-  name = codes "dummyMainClass";
+  name = main_sig.class;
   extends = codes "java.lang.Object" ∷ [];
   implements = [];
   fields = [];

@@ -1,8 +1,8 @@
 // The class whose one method makes the components and calls them (docs/FORMATS.md, "The generated main method"). Blocks
-// stand below; nothing stands above yet.
+// stand below; where programs are entered and the top call above.
 ghost use Rattle.std.specs.Prelude.{◌≡◌, ◌<◌, ◌≤◌, ◌+◌, ◌++◌, OnOk, IfOk, [], ◌∷◌, length, codes, decimal};
 ghost use Rattle.jimple_tree.specs.WellFormed.{IsWellFormed};
-ghost use Rattle.dummy_main.specs.Layout.{body_of, main_of, class_of, statements, choices, blocks, local_at, locals_from, first};
+ghost use Rattle.dummy_main.specs.Layout.{body_of, main_of, main_sig, class_of, statements, choices, blocks, local_at, locals_from, first};
 ghost use Rattle.dummy_main.specs.Listing.{most_components};
 ghost use Rattle.dummy_main.specs.Means.{IsMainOf};
 
@@ -12,7 +12,7 @@ use crate::callback::TypeName;
 use crate::parts::{literal_of, make_type, name_of, none, one};
 use clean_base::{LocalId, Name, Seq};
 use itoa::Buffer;
-use jimple_tree::{Body, Class, JType, Local, Method, Place, Rhs, Stmt};
+use jimple_tree::{Body, Class, JType, Local, Method, Place, Rhs, Sig, Stmt};
 use std::alloc::{AllocError, Global};
 
 fn push_choices(
@@ -161,6 +161,18 @@ fn make_class(alloc: Global, components: &[Component]) -> Result<Class, AllocErr
         implements: none(alloc),
         fields: none(alloc),
         methods: one(alloc, make_main(alloc, components)?)?,
+    })
+}
+
+/// The signature of the generated class's method.
+pub fn main_sig(alloc: Global) -> Result<Sig, AllocError>
+    ensures { IfOk result (λ sig. sig ≡ main_sig) }
+{
+    Ok(Sig {
+        class: name_of(alloc, "dummyMainClass")?,
+        result: make_type(alloc, TypeName::Void)?,
+        name: name_of(alloc, "dummyMainMethod")?,
+        params: none(alloc),
     })
 }
 

@@ -1,5 +1,5 @@
 // The components of an app: lists of them, and the class whose one method means exactly their lifecycles. Trees of classes
-// (`jimple_tree`), the index of names and what all lists share (`list_lines`) stand below; nothing stands above yet.
+// (`jimple_tree`), the index of names and what all lists share (`list_lines`) stand below; programs and the top call above.
 #![tactic(auto)]
 
 mod blocks;
@@ -13,5 +13,5 @@ mod list;
 mod parts;
 
 pub use component::{Component, ComponentKind};
-pub use generate::make;
+pub use generate::{main_sig, make};
 pub use list::read_components;

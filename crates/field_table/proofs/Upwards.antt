@@ -1,15 +1,12 @@
 -- What a look-up along the superclasses of a class finds.
-use Rattle.std.proofs.Common.{◌≡◌, ◌<◌, ◌+◌, ◌⊎◌, inl, inr, ℕ, zero, suc, Bool, true, false, cond, List, [], ◌∷◌, length, map, flat_map, Some, None, refl, sym, ap, subst, ◌∙◌, arith}
+use Rattle.std.proofs.Common.{◌≡◌, ◌<◌, ◌+◌, ◌⊎◌, inl, inr, ℕ, zero, suc, Bool, true, false, cond, List, [], ◌∷◌, length, flat_map, Some, None, refl, sym, ap, subst, ◌∙◌, arith}
 use Rattle.std.specs.Prelude.{All, Contains, Option, IsSome}
 use Rattle.std.specs.List.{find}
 use Rattle.std.proofs.lemmas.List.{append-nil}
 use Rattle.std.proofs.lemmas.List.Elements.{All-contains, Contains-push_cases}
 use Rattle.clean_base.specs.Lists.{At}
-use Rattle.clean_base.specs.declared.ids.ClassId.{ClassId}
-use Rattle.class_table.specs.Hierarchy.{class_names, given, names_in}
+use Rattle.class_table.specs.Hierarchy.{given, names_in}
 use Rattle.class_table.specs.Resolving.{superclass}
-use Rattle.class_table.proofs.Doubles.{own_known, name_of}
-use Rattle.class_table.proofs.Linked.{map_has}
 use Rattle.class_table.proofs.Named.{given_is}
 use Rattle.class_table.proofs.Once.{lacks_any, insert_cases}
 use Rattle.indexmap.specs.IndexSet.{insert_key, insert_all}
@@ -19,17 +16,6 @@ use Rattle.field_table.proofs.Keys.{has_any, sigs_decide}
 use Rattle.jimple_tree.specs.WellFormed.{IsWellFormed}
 use Rattle.jimple_tree.specs.declared.tree.Class.{Class}
 use Rattle.jimple_tree.specs.declared.tree.FieldSig.{FieldSig}
-
--- a name without a number is no class's
-pub not_given : (cs : List Class) (name : List ℕ) → ((k : ClassId) → At (class_names cs) k.0 name → ⊥) → given cs name ≡ None
-not_given cs name none = by (given cs name) refl where
-  by : (o : Option Class) → given cs name ≡ o → given cs name ≡ None
-  by None is = is
-  by (Some c) is =
-      let found = given_is cs name c is in
-      let own = own_known cs name (subst (Contains (map name_of cs)) found.1 (map_has name_of cs c found.0)) in
-      let k : ClassId = record { 0 = own.0 } in
-      absurd (none k (own.1, own.2))
 
 pub place_formed : (cs : List Class) → All IsWellFormed cs → (p : ℕ) (c : Class) → At cs p c → IsWellFormed c
 place_formed cs formed p c at = subst IsWellFormed at.1 (formed p c at.0)

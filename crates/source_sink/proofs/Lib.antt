@@ -3,6 +3,6 @@ pub mod Sound
 pub mod Loops
 pub mod Whole
 pub mod Exact
-pub mod LineExact
-pub mod Along
+pub mod Marked
+pub mod Lines
 pub mod Named

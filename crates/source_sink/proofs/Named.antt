@@ -1,8 +1,8 @@
 -- What the lines of one name say.
-use Rattle.std.proofs.Common.{◌≡◌, ◌⊎◌, ◌↔◌, ◌<◌, ◌≤◌, ◌+◌, ℕ, Bool, true, false, List, [], ◌∷◌, ◌++◌, length, nat_eq, get_or, map, take, IsTrue, refl, sym, ap, subst, ◌∙◌, inl, inr, arith}
+use Rattle.std.proofs.Common.{◌≡◌, ◌==◌, ◌⊎◌, ◌↔◌, ◌<◌, ◌≤◌, ◌+◌, ℕ, zero, suc, Bool, not, true, false, true≢false, List, [], ◌∷◌, ◌++◌, length, nat_eq, get_or, map, take, IsTrue, refl, sym, ap, subst, ◌∙◌, inl, inr, arith}
 use Rattle.std.specs.Prelude.{Contains}
 use Rattle.std.proofs.lemmas.List.{get_or_default, take_all, take_more}
-use Rattle.std.proofs.lemmas.List.Elements.{Contains-append_left, Contains-push, Contains-push_cases}
+use Rattle.std.proofs.lemmas.List.Elements.{Contains-append_left, Contains-append_right, Contains-push, Contains-push_cases}
 use Rattle.clean_base.specs.Exact.{both_true, same_number}
 use lib.Pointwise.{bytes_decides, pointwise_decides}
 use Rattle.clean_base.specs.Lists.{At}
@@ -10,7 +10,7 @@ use Rattle.jimple_tree.specs.declared.tree.JType.{JType}
 use Rattle.jimple_tree.specs.declared.tree.Sig.{Sig}
 use Rattle.name_index.proofs.Named.{name_at}
 use Rattle.source_sink.specs.declared.line.Line.{Line}
-use Rattle.source_sink.specs.Lists.{Says}
+use Rattle.source_sink.specs.Lists.{Names, Says}
 use Rattle.source_sink.specs.ReadingLists.{same_type, is_same, adds, name_of, SaysAt}
 
 number_same : (n : ℕ) → nat_eq n n ≡ true
@@ -115,3 +115,17 @@ all_said lines sig does places i known past exact h = (
     says = s.says;
   }),
 )
+
+-- the line at the place of a name
+line_there : (lines : List Line) (name : List ℕ) (k : ℕ) → At (map name_of lines) k name → Names lines name
+line_there [] name k (below, is) = absurd (omega (arith, below))
+line_there (l ∷ lines) name zero (below, is) = (l, (0, omega arith, refl), is)
+line_there (l ∷ lines) name (suc k) (below, is) = let rest = line_there lines name k ((omega (arith, below)), is) in (rest.0, Contains-append_right (l ∷ []) lines rest.0 rest.1, rest.2)
+
+-- a name has places just where some line is of it
+pub has_places : (lines : List Line) (name : List ℕ) (places : List ℕ) (empty : Bool) → empty ≡ (length places == 0)
+    → ((place : ℕ) → Contains places place ↔ At (map name_of lines) place name) → IsTrue (not empty) ↔ Names lines name
+has_places lines name [] true is exact = ((λ no. absurd (cc)), λ (line, (k, below, at), same). let has = (exact k).1 (subst (At (map name_of lines) k) same (name_at name_of lines k line (below, at))) in let none = has.1 in absurd (omega (arith, none)))
+has_places lines name (p ∷ places) false is exact = ((λ yes. line_there lines name p ((exact p).0 (0, omega arith, refl))), (λ has. refl))
+has_places lines name [] false is exact = let bad : false ≡ true = is in absurd (true≢false (sym bad))
+has_places lines name (p ∷ places) true is exact = let none : length (p ∷ places) ≡ 0 = grind (arith, is) in absurd (omega (arith, none))

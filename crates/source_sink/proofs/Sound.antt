@@ -8,9 +8,9 @@ use Rattle.std.specs.List.{prefix_len, starts_with, list_all, AllByRecursion}
 use Rattle.std.proofs.lemmas.List.Sums.{prefix_len-le-length}
 use lib.Pointwise.{bytes_decides}
 use Rattle.jimple_tree.specs.declared.tree.JType.{JType}
-use Rattle.source_sink.specs.declared.cursor.Spaced.{Spaced}
+use Rattle.jimple_tree.specs.declared.tree.Sig.{Sig}
 use Rattle.jimple_tree.specs.Printed.{brackets, type_text}
-use Rattle.source_sink.specs.Signature.{is_name_byte, IsName, spaces, later_text, params_text, sig_text, HasNames}
+use Rattle.source_sink.specs.Signature.{is_name_byte, IsName, spaces, later_text, params_text, sig_text, Spells}
 use Rattle.source_sink.specs.Reading.{sees, read_byte, name_len, read_name, is_space, read_spaces, without_spaces, pairs, without_pairs, read_type, read_later_type, read_later, read_params, read_sig}
 use Rattle.source_sink.proofs.Steps.{Reads, reads_then, reads_if, reads_unless, reads_either, reads_some_all}
 
@@ -72,12 +72,15 @@ spaces_front text =
     let e : take (prefix_len is_space text) text ≡ spaces (prefix_len is_space text) = run_of_spaces _ (run_passes is_space text) ∙ ap spaces n in
     cut (prefix_len is_space text) text ∙ ap (λ (xs : List ℕ). xs ++ drop (prefix_len is_space text) text) e
 
-abbrev pub IsSpaced : List ℕ → ℕ → List ℕ → Type 0
-IsSpaced text n left = (text ≡ spaces n ++ left) × (0 < n)
+-- a space or more
+pub record IsSpaced (text : List ℕ) (u : Unit {0}) (left : List ℕ) : Type 0 where
+  pub gap : ℕ
+  pub some : 0 < gap
+  pub is : text ≡ spaces gap ++ left
 
 pub spaces_read : (text : List ℕ) → Reads (read_spaces text) (IsSpaced text)
-spaces_read text = reads_unless (IsSpaced text) (prefix_len is_space text == 0) (Some (prefix_len is_space text, drop (prefix_len is_space text) text))
-    (λ e. (spaces_front text, let apart : prefix_len is_space text ≢ 0 = search rules in omega (arith, apart)))
+spaces_read text = reads_unless (IsSpaced text) (prefix_len is_space text == 0) (Some (tt, without_spaces text))
+    (λ e. record { gap = prefix_len is_space text; some = let apart : prefix_len is_space text ≢ 0 = search rules in omega (arith, apart); is = spaces_front text })
 
 pairs_on : (a b : ℕ) (cs : List ℕ) (t : Bool) → (a == 91 && b == 93) ≡ t → cs ≡ brackets (pairs cs) ++ without_pairs cs
     → a ∷ b ∷ cs ≡ brackets (pairs (a ∷ b ∷ cs)) ++ without_pairs (a ∷ b ∷ cs)
@@ -153,12 +156,10 @@ params_read text = reads_either (AreParams text) (sees 41 text) _ _
     })))
 
 -- a signature in front
-pub record IsSig (text : List ℕ) (s : Spaced) (left : List ℕ) : Type 0 where
-  pub commas : List ℕ
-  pub names : HasNames s.sig
-  pub colon_some : 0 < s.colon
-  pub result_some : 0 < s.result
-  pub is : text ≡ sig_text s.colon s.result commas s.sig ++ left
+pub record IsSig (text : List ℕ) (s : Sig) (left : List ℕ) : Type 0 where
+  pub front : List ℕ
+  pub spells : Spells s front
+  pub is : text ≡ front ++ left
 
 abbrev pub OneByte : ℕ → List ℕ → Unit {0} → List ℕ → Type 0
 OneByte b text u left = text ≡ b ∷ left
@@ -178,11 +179,17 @@ sig_read text =
     reads_then (OneByte 41 x9.1) (IsSig text) (read_byte 41 x9.1) _ (byte_read 41 x9.1) (λ x10 h10.
     reads_then (OneByte 62 x10.1) (IsSig text) (read_byte 62 x10.1) _ (byte_read 62 x10.1) (λ x11 h11.
     record {
-      commas = h9.gaps;
-      names = record { class = h2.1; result = h5.1; name = h7.1; params = h9.names };
-      colon_some = h4.1;
-      result_some = h6.1;
-      is = joined text x1.1 x2.0 x2.1 x3.1 x4.0 x4.1 x5.0 x5.1 x6.0 x6.1 x7.0 x7.1 x8.1 x9.0 h9.gaps x9.1 x10.1 x11.1 h1 h2.0 h3 h4.0 h5.0 h6.0 h7.0 h8 h9.is h10 h11;
+      front = sig_text h4.gap h6.gap h9.gaps (record { class = x2.0; result = x5.0; name = x7.0; params = x9.0 });
+      spells = record {
+        colon = h4.gap;
+        result = h6.gap;
+        commas = h9.gaps;
+        names = record { class = h2.1; result = h5.1; name = h7.1; params = h9.names };
+        colon_some = h4.some;
+        result_some = h6.some;
+        is = refl;
+      };
+      is = joined text x1.1 x2.0 x2.1 x3.1 h4.gap x4.1 x5.0 x5.1 h6.gap x6.1 x7.0 x7.1 x8.1 x9.0 h9.gaps x9.1 x10.1 x11.1 h1 h2.0 h3 h4.is h5.0 h6.is h7.0 h8 h9.is h10 h11;
     }))))))))))) where
       joined : (text t1 class t2 t3 : List ℕ) (colon : ℕ) (t4 : List ℕ) (result : JType) (t5 : List ℕ) (gap : ℕ) (t6 name t7 t8 : List ℕ) (params : List JType) (gaps : List ℕ) (t9 t10 t11 : List ℕ)
           → text ≡ 60 ∷ t1 → t1 ≡ class ++ t2 → t2 ≡ 58 ∷ t3 → t3 ≡ spaces colon ++ t4 → t4 ≡ type_text result ++ t5 → t5 ≡ spaces gap ++ t6 → t6 ≡ name ++ t7 → t7 ≡ 40 ∷ t8

@@ -8,7 +8,7 @@ use Rattle.clean_base.specs.Exact.{both_true}
 use Rattle.jimple_tree.specs.declared.tree.JType.{JType}
 use Rattle.jimple_tree.specs.declared.tree.Sig.{Sig}
 use Rattle.jimple_tree.specs.Printed.{brackets, type_text}
-use Rattle.source_sink.specs.Signature.{is_name_byte, IsName, IsPlainName, spaces, later_text, params_text, sig_text, HasNames}
+use Rattle.source_sink.specs.Signature.{is_name_byte, IsName, IsPlainName, spaces, later_text, params_text, sig_text, HasNames, Spells}
 use Rattle.source_sink.specs.Reading.{sees, read_byte, name_len, read_name, is_space, read_spaces, without_spaces, pairs, without_pairs, read_type, read_later_type, read_later, read_params, read_sig}
 
 -- no byte of this kind stands in front
@@ -70,7 +70,7 @@ space_run n rest s = run_length is_space (spaces n) rest (all_spaces n) s ∙ le
 space_drop : (n : ℕ) (rest : List ℕ) → drop n (spaces n ++ rest) ≡ rest
 space_drop n rest = ap (λ (k : ℕ). drop k (spaces n ++ rest)) (sym (length_spaces n)) ∙ drop-append_seam (spaces n) rest
 
-pub spaces_are_read : (n : ℕ) (rest : List ℕ) → 0 < n → Stops is_space rest → read_spaces (spaces n ++ rest) ≡ Some (n, rest)
+pub spaces_are_read : (n : ℕ) (rest : List ℕ) → 0 < n → Stops is_space rest → read_spaces (spaces n ++ rest) ≡ Some (tt, rest)
 spaces_are_read n rest some s =
     let k = space_run n rest s in
     let apart : (n == 0) ≡ false = grind arith in
@@ -171,18 +171,18 @@ spaces_stop : (n : ℕ) (rest : List ℕ) → 0 < n → Stops is_name_byte (spac
 spaces_stop zero rest some = absurd (omega (arith, some))
 spaces_stop (suc n) rest some = (refl, refl)
 
-sig_on : (text t1 class t2 t3 : List ℕ) (colon : ℕ) (t4 : List ℕ) (result : JType) (t5 : List ℕ) (gap : ℕ) (t6 name t7 t8 : List ℕ) (params : List JType) (t9 t10 t11 : List ℕ)
-    → read_byte 60 text ≡ Some (tt, t1) → read_name t1 ≡ Some (class, t2) → read_byte 58 t2 ≡ Some (tt, t3) → read_spaces t3 ≡ Some (colon, t4)
-    → read_type t4 ≡ Some (result, t5) → read_spaces t5 ≡ Some (gap, t6) → read_name t6 ≡ Some (name, t7) → read_byte 40 t7 ≡ Some (tt, t8)
+sig_on : (text t1 class t2 t3 t4 : List ℕ) (result : JType) (t5 t6 name t7 t8 : List ℕ) (params : List JType) (t9 t10 t11 : List ℕ)
+    → read_byte 60 text ≡ Some (tt, t1) → read_name t1 ≡ Some (class, t2) → read_byte 58 t2 ≡ Some (tt, t3) → read_spaces t3 ≡ Some (tt, t4)
+    → read_type t4 ≡ Some (result, t5) → read_spaces t5 ≡ Some (tt, t6) → read_name t6 ≡ Some (name, t7) → read_byte 40 t7 ≡ Some (tt, t8)
     → read_params t8 ≡ Some (params, t9) → read_byte 41 t9 ≡ Some (tt, t10) → read_byte 62 t10 ≡ Some (tt, t11)
-    → read_sig text ≡ Some (record { sig = record { class = class; result = result; name = name; params = params }; colon = colon; result = gap }, t11)
+    → read_sig text ≡ Some (record { class = class; result = result; name = name; params = params }, t11)
 unfolding read_sig
-sig_on text t1 class t2 t3 colon t4 result t5 gap t6 name t7 t8 params t9 t10 t11 e1 e2 e3 e4 e5 e6 e7 e8 e9 e10 e11 =
+sig_on text t1 class t2 t3 t4 result t5 t6 name t7 t8 params t9 t10 t11 e1 e2 e3 e4 e5 e6 e7 e8 e9 e10 e11 =
     rw (e1, e2, e3, e4, e5, e6, e7, e8, e9, e10, e11) refl
 
-pub sig_is_read : (s : Sig) (colon result : ℕ) (commas rest : List ℕ) → HasNames s → 0 < colon → 0 < result
-    → read_sig (sig_text colon result commas s ++ rest) ≡ Some (record { sig = s; colon = colon; result = result }, rest)
-sig_is_read s colon result commas rest names some_colon some_result =
+sig_text_is_read : (s : Sig) (colon result : ℕ) (commas rest : List ℕ) → HasNames s → 0 < colon → 0 < result
+    → read_sig (sig_text colon result commas s ++ rest) ≡ Some (s, rest)
+sig_text_is_read s colon result commas rest names some_colon some_result =
     let t9 : List ℕ = 41 ∷ 62 ∷ rest in
     let t8 : List ℕ = params_text s.params commas ++ t9 in
     let t6 : List ℕ = s.name ++ (40 ∷ t8) in
@@ -192,7 +192,11 @@ sig_is_read s colon result commas rest names some_colon some_result =
     let t1 : List ℕ = s.class ++ (58 ∷ t3) in
     let shape : sig_text colon result commas s ++ rest ≡ 60 ∷ t1 = simp (append_assoc, append-nil) in
     let stop = spaces_stop result t6 some_result in
-    ap read_sig shape ∙ sig_on (60 ∷ t1) t1 s.class (58 ∷ t3) t3 colon t4 s.result t5 result t6 s.name (40 ∷ t8) t8 s.params t9 (62 ∷ rest) rest
+    ap read_sig shape ∙ sig_on (60 ∷ t1) t1 s.class (58 ∷ t3) t3 t4 s.result t5 t6 s.name (40 ∷ t8) t8 s.params t9 (62 ∷ rest) rest
     refl (name_is_read s.class (58 ∷ t3) names.class refl) refl (spaces_are_read colon t4 some_colon (type_stops s.result t5 names.result))
     (type_is_read s.result t5 names.result stop.0 stop.1) (spaces_are_read result t6 some_result (name_stops s.name (40 ∷ t8) names.name))
     (name_is_read s.name (40 ∷ t8) names.name refl) refl (params_are_read s.params commas (62 ∷ rest) names.params) refl refl
+
+pub sig_is_read : (s : Sig) (text front rest : List ℕ) → Spells s front → text ≡ front ++ rest → read_sig text ≡ Some (s, rest)
+sig_is_read s text front rest h e =
+    ap read_sig (e ∙ ap (λ (xs : List ℕ). xs ++ rest) h.is) ∙ sig_text_is_read s h.colon h.result h.commas rest h.names h.colon_some h.result_some

@@ -4,7 +4,7 @@ use Rattle.std.specs.Prelude.{◌≡◌, ◌==◌, ℕ, zero, suc, Bool, false, 
 use Rattle.std.specs.List.{prefix_len, starts_with}
 use mathlib.Core.Bool.{◌&&◌}
 use Rattle.jimple_tree.specs.declared.tree.JType.{JType}
-use Rattle.source_sink.specs.declared.cursor.Spaced.{Spaced}
+use Rattle.jimple_tree.specs.declared.tree.Sig.{Sig}
 use Rattle.source_sink.specs.declared.cursor.Miss.{Miss}
 use Rattle.source_sink.specs.declared.cursor.Miss.TheVariants.{Other, Memory}
 use Rattle.source_sink.specs.Signature.{is_name_byte}
@@ -34,11 +34,11 @@ read_name text = if name_len text == 0 then None else Some (take (name_len text)
 abbrev pub is_space : ℕ → Bool
 is_space c = c == 32
 
-abbrev pub read_spaces : List ℕ → Read ℕ
-read_spaces text = if prefix_len is_space text == 0 then None else Some (prefix_len is_space text, drop (prefix_len is_space text) text)
-
 abbrev pub without_spaces : List ℕ → List ℕ
 without_spaces text = drop (prefix_len is_space text) text
+
+abbrev pub read_spaces : List ℕ → Read (Unit {0})
+read_spaces text = if prefix_len is_space text == 0 then None else Some (tt, without_spaces text)
 
 abbrev pub pairs : List ℕ → ℕ
 pairs [] = 0
@@ -63,10 +63,10 @@ read_later (suc n) text = if sees 44 text then (read_later_type text >>= λ t. r
 abbrev pub read_params : List ℕ → Read (List JType)
 read_params text = if sees 41 text then Some ([], text) else (read_type text >>= λ t. read_later (length t.1) t.1 >>= λ ts. Some (t.0 ∷ ts.0, ts.1))
 
-unfoldable pub read_sig : List ℕ → Read Spaced
-read_sig text = read_byte 60 text >>= λ o. read_name o.1 >>= λ class. read_byte 58 class.1 >>= λ c. read_spaces c.1 >>= λ colon. read_type colon.1
-    >>= λ result. read_spaces result.1 >>= λ gap. read_name gap.1 >>= λ name. read_byte 40 name.1 >>= λ p. read_params p.1 >>= λ params. read_byte 41 params.1
-    >>= λ c. read_byte 62 c.1 >>= λ end. Some (record { sig = record { class = class.0; result = result.0; name = name.0; params = params.0 }; colon = colon.0; result = gap.0 }, end.1)
+unfoldable pub read_sig : List ℕ → Read Sig
+read_sig text = read_byte 60 text >>= λ o. read_name o.1 >>= λ class. read_byte 58 class.1 >>= λ c. read_spaces c.1 >>= λ s. read_type s.1
+    >>= λ result. read_spaces result.1 >>= λ s. read_name s.1 >>= λ name. read_byte 40 name.1 >>= λ p. read_params p.1 >>= λ params. read_byte 41 params.1
+    >>= λ c. read_byte 62 c.1 >>= λ end. Some (record { class = class.0; result = result.0; name = name.0; params = params.0 }, end.1)
 
 -- what a miss says of what should be read
 abbrev pub Misses : {X : Type 0} → Miss → Read X → Type 0

@@ -1,41 +1,51 @@
--- How a line of a list is read from the front of bytes. The private functions of `lists` cite this; public contracts
--- cite `Lists` alone.
-use Rattle.std.specs.Prelude.{◌≡◌, ◌==◌, ℕ, Bool, true, false, not, List, drop, nat_eq, Contains, Some, None, if◌then◌else◌}
-use Rattle.std.specs.List.{list_all, starts_with}
+-- What the steps of reading a list, and of asking it, come to. Private functions cite this; public contracts cite `Lists` alone.
+use Rattle.std.specs.Prelude.{◌≡◌, ◌⊎◌, ℕ, Bool, true, List, [], ◌∷◌, ◌++◌, nat_eq, Contains, if◌then◌else◌}
 use mathlib.Core.Bool.{◌&&◌, ◌||◌}
 use lib.Pointwise.{pointwise}
 use Rattle.clean_base.specs.Lists.{At}
+use Rattle.clean_base.specs.declared.fault.InputFault.TheVariants.{BadLine}
+use Rattle.clean_base.specs.declared.fault.Stop.{Stop}
+use Rattle.clean_base.specs.declared.fault.Stop.TheVariants.{Fault, OutOfMemory}
+use Rattle.list_lines.specs.Lines.{IsPassedOver}
 use Rattle.jimple_tree.specs.declared.tree.JType.{JType}
 use Rattle.jimple_tree.specs.declared.tree.Sig.{Sig}
 use Rattle.source_sink.specs.declared.cursor.Miss.{Miss}
 use Rattle.source_sink.specs.declared.cursor.Miss.TheVariants.{Other, Memory}
-use Rattle.source_sink.specs.declared.cursor.Spaced.{Spaced}
 use Rattle.source_sink.specs.declared.line.Line.{Line}
-use Rattle.source_sink.specs.Lists.{AreLines, mark_text}
-use Rattle.source_sink.specs.Reading.{Read, ◌>>=◌, read_sig}
+use Rattle.source_sink.specs.Lists.{Begins, AreWords, IsMark, Gives}
 
-abbrev pub is_bare : List JType → Bool
-is_bare types = list_all (λ (t : JType). t.dims == 0) types
+-- the text begins with this word, and with no other that words may follow
+pub record IsNext (word text rest : List ℕ) : Type 0 where
+  pub begins : Begins word text rest
+  pub only : (other behind : List ℕ) (words : List (List ℕ)) → Begins other text behind → AreWords words behind → (other ≡ word) × (behind ≡ rest)
 
--- one space behind the colon and one behind the result type, and no brackets
-abbrev pub is_built : Spaced → Bool
-is_built s = s.colon == 1 && s.result == 1 && s.sig.result.dims == 0 && is_bare s.sig.params
+-- the text begins with no word that words may follow
+abbrev pub HasNoWord : List ℕ → Type 0
+HasNoWord text = (word rest : List ℕ) (words : List (List ℕ)) → Begins word text rest → AreWords words rest → ⊥
 
-abbrev pub read_mark : List ℕ → Read Bool
-read_mark text = if starts_with nat_eq text (mark_text true) then Some (true, drop 13 text) else (if starts_with nat_eq text (mark_text false) then Some (false, drop 11 text) else None)
+-- the text is a mark alone
+pub record IsMarkAlone (source sink : Bool) (text : List ℕ) : Type 0 where
+  pub mark : List ℕ
+  pub words : AreWords (mark ∷ []) text
+  pub says : IsMark source sink mark
 
-abbrev pub read_line : List ℕ → Read Line
-read_line text = read_sig text >>= λ s. if is_built s.0 then (read_mark s.1 >>= λ m. Some (record { sig = s.0.sig; source = m.0; sink = not m.0 }, m.1)) else None
+-- what a miss says of a line
+abbrev pub GivesNothing : Miss → List ℕ → Type 0
+GivesNothing Other line = (l : Line) → Gives line l → ⊥
+GivesNothing Memory line = Unit {0}
 
--- the bytes are these lines and no others
-pub record AreOnlyLines (lines : List Line) (bytes : List ℕ) : Type 0 where
-  pub are : AreLines lines bytes
-  pub only : (others : List Line) → AreLines others bytes → others ≡ lines
+-- a line makes a list longer by what it gives, or leaves it as it is
+abbrev pub Adds : List ℕ → List Line → List Line → Type 0
+Adds line old new = (IsPassedOver line × (new ≡ old)) ⊎ ((l : Line) × Gives line l × (new ≡ old ++ l ∷ []))
 
--- what a miss says of the bytes
-abbrev pub NoLinesBut : Miss → List ℕ → Type 0
-NoLinesBut Other bytes = (lines : List Line) → AreLines lines bytes → ⊥
-NoLinesBut Memory bytes = Unit {0}
+abbrev pub RefusesLine : List ℕ → Miss → Type 0
+RefusesLine line Other = (IsPassedOver line → ⊥) × ((l : Line) → Gives line l → ⊥)
+RefusesLine line Memory = Unit {0}
+
+-- how a miss at that line of the file stops the reading
+abbrev pub stop_of : Miss → ℕ → ℕ → Stop
+stop_of Other file line = Fault (BadLine file line)
+stop_of Memory file line = OutOfMemory
 
 abbrev pub same_type : JType → JType → Bool
 same_type a b = pointwise nat_eq a.base b.base && nat_eq a.dims b.dims

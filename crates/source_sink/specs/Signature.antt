@@ -7,8 +7,8 @@ use Rattle.jimple_tree.specs.declared.tree.JType.{JType}
 use Rattle.jimple_tree.specs.declared.tree.Sig.{Sig}
 
 -- white space: a tab, a line feed, a carriage return or a space
-abbrev pub is_blank : ℕ → Bool
-is_blank c = c == 9 || c == 10 || c == 13 || c == 32
+abbrev pub is_white_space : ℕ → Bool
+is_white_space c = c == 9 || c == 10 || c == 13 || c == 32
 
 -- one of ( ) , : < > [ ]
 abbrev pub is_sign : ℕ → Bool
@@ -16,7 +16,7 @@ is_sign c = c == 40 || c == 41 || c == 44 || c == 58 || c == 60 || c == 62 || c 
 
 -- a byte that may stand in a name
 abbrev pub is_name_byte : ℕ → Bool
-is_name_byte c = not (is_blank c || is_sign c)
+is_name_byte c = not (is_white_space c || is_sign c)
 
 -- bytes of names, one or more
 pub record IsPlainName (n : List ℕ) : Type 0 where

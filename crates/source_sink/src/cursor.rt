@@ -1,7 +1,7 @@
-// Reads a signature from the front of a text, form by form. `signature` and `lists` stand above.
+// Reads a signature from the front of a text, form by form. `signature`, `words` and `entry` stand above.
 ghost use Rattle.std.specs.Prelude.{◌≡◌, ◌≤◌, ◌+◌, ◌*◌, length, drop, [], ◌↔◌, IsTrue, Some, None, IfOk, nat_eq, if◌then◌else◌};
 ghost use Rattle.std.specs.List.{prefix_len, starts_with};
-ghost use Rattle.source_sink.specs.Signature.{is_blank, is_sign, is_name_byte};
+ghost use Rattle.source_sink.specs.Signature.{is_white_space, is_sign, is_name_byte};
 ghost use Rattle.source_sink.specs.Reading.{Gives, GivesMore, sees, read_byte, name_len, read_name, is_space, read_spaces, without_spaces, pairs, without_pairs, read_type, read_later_type, read_later, read_params, read_sig};
 
 use clean_base::{Name, Seq};
@@ -37,16 +37,8 @@ impl<T: Drop> From<AllocFailed<T>> for Miss {
     }
 }
 
-/// A signature, and how many spaces stood behind its colon and behind its result type.
-#[derive(Debug, Drop)]
-pub struct Spaced {
-    pub sig: Sig,
-    pub colon: u64,
-    pub result: u64,
-}
-
-fn is_blank(c: u8) -> bool
-    ensures { result ≡ is_blank c }
+pub fn is_white_space(c: u8) -> bool
+    ensures { result ≡ is_white_space c }
 {
     c == b'\t' || c == b'\n' || c == b'\r' || c == b' '
 }
@@ -67,7 +59,7 @@ fn is_sign(c: u8) -> bool
 fn is_name_byte(c: u8) -> bool
     ensures { result ≡ is_name_byte c }
 {
-    !(is_blank(c) || is_sign(c))
+    !(is_white_space(c) || is_sign(c))
 }
 
 // How many bytes of names stand in front.
@@ -119,6 +111,13 @@ impl<'a> Cursor<'a> {
         Cursor { left }
     }
 
+    /// What no call has taken.
+    pub fn left(&self) -> &'a [u8]
+        ensures { result.now ≡ self.now.left.now }
+    {
+        self.left
+    }
+
     pub fn is_at_end(&self) -> bool
         ensures at_end { IsTrue result ↔ self.now.left.now ≡ [] }
     {
@@ -146,20 +145,6 @@ impl<'a> Cursor<'a> {
         }
     }
 
-    /// Takes the word, where it stands in front.
-    pub fn take_word(&mut self, word: &[u8]) -> bool
-        ensures found { result ≡ starts_with nat_eq self.old.left.now word.now }
-        ensures left { self.new.left.now ≡ (if result then drop (length word.now) self.old.left.now else self.old.left.now) }
-    {
-        match self.left.strip_prefix(word) {
-            Some(left) => {
-                self.left = left;
-                true
-            }
-            None => false,
-        }
-    }
-
     fn skip(&mut self, n: usize)
         requires { n ≤ length self.old.left.now }
         ensures { self.new.left.now ≡ drop n self.old.left.now }
@@ -167,7 +152,7 @@ impl<'a> Cursor<'a> {
         self.left = self.left.split_at(n).1;
     }
 
-    fn take_spaces(&mut self) -> Result<u64, Miss>
+    fn take_spaces(&mut self) -> Result<(), Miss>
         ensures { Gives result self.new.left.now (read_spaces self.old.left.now) }
     {
         let n = spaces_len(self.left);
@@ -175,7 +160,7 @@ impl<'a> Cursor<'a> {
             return Err(Miss::Other);
         }
         self.skip(n);
-        Ok(n as u64)
+        Ok(())
     }
 
     fn skip_spaces(&mut self)
@@ -248,26 +233,25 @@ impl<'a> Cursor<'a> {
 
     /// Takes a signature.
     #[tactic(auto, unfolding(crate::specs::Reading::read_sig))]
-    pub fn take_sig(&mut self, alloc: Global) -> Result<Spaced, Miss>
+    pub fn take_sig(&mut self, alloc: Global) -> Result<Sig, Miss>
         ensures { Gives result self.new.left.now (read_sig self.old.left.now) }
     {
         self.take_byte(b'<')?;
         let class = self.take_name(alloc)?;
         self.take_byte(b':')?;
-        let colon = self.take_spaces()?;
-        let ty = self.take_type(alloc)?;
-        let result = self.take_spaces()?;
+        self.take_spaces()?;
+        let result = self.take_type(alloc)?;
+        self.take_spaces()?;
         let name = self.take_name(alloc)?;
         self.take_byte(b'(')?;
         let params = self.take_params(alloc)?;
         self.take_byte(b')')?;
         self.take_byte(b'>')?;
-        let sig = Sig {
+        Ok(Sig {
             class,
-            result: ty,
+            result,
             name,
             params,
-        };
-        Ok(Spaced { sig, colon, result })
+        })
     }
 }

@@ -1,4 +1,4 @@
-// A line of a list, and what a list says of a method. `lists` and `index` stand above.
+// A line of a list, and what a list says of a method. `words`, `entry` and `lists` stand above.
 ghost use Rattle.std.specs.Prelude.{◌≡◌, ◌↔◌, ◌⊎◌, IsTrue};
 ghost use Rattle.source_sink.specs.ReadingLists.{is_same, adds};
 

@@ -1,16 +1,19 @@
-// Lists of sources and sinks: read line by line, and asked by signature. `cursor` and `line` stand below.
-ghost use Rattle.std.specs.Prelude.{◌≡◌, ◌↔◌, ◌==◌, List, map, IfOk, IfErr, IsTrue, MatchResult, true};
-ghost use Rattle.jimple_tree.specs.declared.tree.Sig.{Sig};
-ghost use Rattle.source_sink.specs.declared.line.Line.{Line};
+// Lists of sources and sinks: read line by line, and asked by signature. `entry`, `line` and what all lists share stand below.
+ghost use Rattle.std.specs.Prelude.{◌≡◌, ◌↔◌, List, map, IfOk, IfErr, OnOk, IsTrue};
+ghost use Rattle.clean_base.specs.declared.fault.InputFault.{InputFault};
 ghost use Rattle.name_index.specs.Index.{IsIndex};
-ghost use Rattle.source_sink.specs.Lists.{AreLines, Refuses, Says};
-ghost use Rattle.source_sink.specs.ReadingLists.{is_bare, is_built, read_mark, read_line, name_of, AreOnlyLines, NoLinesBut};
-ghost use Rattle.source_sink.specs.Reading.{Gives};
+ghost use Rattle.list_lines.specs.Lines.{trimmed, list_lines};
+ghost use Rattle.source_sink.specs.declared.line.Line.{Line};
+ghost use Rattle.source_sink.specs.Lists.{IsList, IsFirstFault, Names, Refused, Says};
+ghost use Rattle.source_sink.specs.ReadingLists.{name_of, Adds, RefusesLine, stop_of};
 
-use crate::cursor::{Cursor, Miss, Spaced};
+use crate::cursor::Miss;
+use crate::entry::read_line;
 use crate::line::{Kind, Line, with_line};
+use bstr::ByteSlice;
 use clean_base::{InputFault, Name, Stop};
-use jimple_tree::{JType, Sig};
+use jimple_tree::Sig;
+use list_lines::{is_passed_over, trimmed};
 use name_index::NameIndex;
 use std::alloc::{AllocError, Global};
 use std::marker::Model;
@@ -54,77 +57,54 @@ fn indexed(alloc: Global, lines: Vec<Line>) -> Result<Lists, AllocError>
     Ok(Lists { lines, index })
 }
 
-// Whether no type has brackets.
-fn is_bare(types: &[JType]) -> bool
-    ensures { result ≡ is_bare types.now }
+// Takes a line, which is passed over or gives one of the list.
+fn take_line(alloc: Global, line: &[u8], lines: &mut Vec<Line>) -> Result<(), Miss>
+    ensures adds { OnOk result (Adds (trimmed line.now) lines.old.items lines.new.items) }
+    ensures refused { IfErr result (RefusesLine (trimmed line.now)) }
 {
-    types.iter().all(|ty| ty.dims == 0)
+    let text = trimmed(line);
+    if is_passed_over(text) {
+        return Ok(());
+    }
+    lines.push(read_line(alloc, text)?)?;
+    Ok(())
 }
 
-// Whether a signature has the form that is built for lists.
-fn is_built(found: &Spaced) -> bool
-    ensures { result ≡ is_built found.now }
+fn stop_of(miss: Miss, file: u32, line: u64) -> Stop
+    ensures { result ≡ stop_of miss file line }
 {
-    found.colon == 1
-        && found.result == 1
-        && found.sig.result.dims == 0
-        && is_bare(found.sig.params.as_slice())
-}
-
-// What stands behind a signature: true at a source, false at a sink.
-fn take_mark(cursor: &mut Cursor<'_>) -> Result<bool, Miss>
-    ensures { Gives result cursor.new.left.now (read_mark cursor.old.left.now) }
-{
-    if cursor.take_word(b" -> _SOURCE_\n") {
-        Ok(true)
-    } else if cursor.take_word(b" -> _SINK_\n") {
-        Ok(false)
-    } else {
-        Err(Miss::Other)
+    match miss {
+        Miss::Other => Stop::Fault(InputFault::BadLine { file, line }),
+        Miss::Memory => Stop::OutOfMemory,
     }
 }
 
-// Takes a line, with its line feed.
-fn take_line(alloc: Global, cursor: &mut Cursor<'_>) -> Result<Line, Miss>
-    ensures { Gives result cursor.new.left.now (read_line cursor.old.left.now) }
-{
-    let found = cursor.take_sig(alloc)?;
-    if !is_built(&found) {
-        return Err(Miss::Other);
-    }
-    let source = take_mark(cursor)?;
-    Ok(Line {
-        sig: found.sig,
-        source,
-        sink: !source,
-    })
-}
-
-// Takes lines up to the end.
-fn take_lines(alloc: Global, bytes: &[u8]) -> Result<Vec<Line>, Miss>
-    ensures { MatchResult result (λ v. AreOnlyLines v.items bytes.now) (λ e. NoLinesBut e bytes.now) }
+fn read_lines(alloc: Global, bytes: &[u8], file: u32) -> Result<Vec<Line>, Stop>
+    ensures ok { IfOk result (λ lines. IsList bytes.now lines.items) }
+    ensures err { IfErr result (Refused file bytes.now) }
 {
     let mut lines = Vec::new(alloc);
-    let mut cursor = Cursor::new(bytes);
-    'lines: while !cursor.is_at_end() {
-        lines.push(take_line(alloc, &mut cursor)?)?;
+    let mut number = 0u64;
+    for line in bytes.lines() {
+        number += 1;
+        match take_line(alloc, line, &mut lines) {
+            Ok(()) => {}
+            Err(miss) => return Err(stop_of(miss, file, number)),
+        }
     }
     Ok(lines)
 }
 
-/// The list that the bytes spell, in the form that is built: each line is a signature without brackets, with one
-/// space behind its colon and one behind its result type, then ` -> _SOURCE_` or ` -> _SINK_` and a line feed.
-/// `NotYet` where they spell none.
+/// The lines of a list, in its order. `file` is the file's place in the order of reading, as faults name it.
+///
+/// An error is want of memory, or `BadLine` at the first line that isn't understood (docs/FORMATS.md, "Signatures and lists").
 pub fn read_lists(alloc: Global, bytes: &[u8], file: u32) -> Result<Lists, Stop>
-    ensures ok { IfOk result (λ l. AreLines l bytes.now) }
-    ensures only { IfOk result (λ l. (others : List Line) → AreLines others bytes.now → others ≡ l) }
-    ensures refused { IfErr result (λ stop. Refuses bytes.now file stop) }
+    ensures ok { IfOk result (IsList bytes.now) }
+    ensures only { IfOk result (λ lines. (others : List Line) → IsList bytes.now others → others ≡ lines) }
+    ensures faultless { OnOk result ((fault : InputFault) → IsFirstFault file (list_lines bytes.now) fault → ⊥) }
+    ensures err { IfErr result (Refused file bytes.now) }
 {
-    let lines = match take_lines(alloc, bytes) {
-        Ok(lines) => lines,
-        Err(Miss::Other) => return Err(Stop::Fault(InputFault::NotYet { file })),
-        Err(Miss::Memory) => return Err(Stop::OutOfMemory),
-    };
+    let lines = read_lines(alloc, bytes, file)?;
     match indexed(alloc, lines) {
         Ok(lists) => Ok(lists),
         Err(AllocError) => Err(Stop::OutOfMemory),
@@ -132,6 +112,13 @@ pub fn read_lists(alloc: Global, bytes: &[u8], file: u32) -> Result<Lists, Stop>
 }
 
 impl Lists {
+    /// Whether some line is of a method of this name.
+    pub fn names(&self, name: &Name) -> bool
+        ensures { IsTrue result ↔ Names self.now name.now }
+    {
+        !self.index.places(name).is_empty()
+    }
+
     /// What the lines say of the signature, with that class in place of its own.
     pub fn kind(&self, class: &Name, sig: &Sig) -> Kind
         ensures source { IsTrue result.source ↔ Says self.now (record sig.now { class = class.now }) (λ (l : Line). l.source) }

@@ -20,5 +20,5 @@ pub fn read_sig(alloc: Global, text: &[u8]) -> Result<Option<Sig>, AllocError>
     if !cursor.is_at_end() {
         return Ok(None);
     }
-    Ok(Some(found.sig))
+    Ok(Some(found))
 }

@@ -5,7 +5,7 @@ use Rattle.jimple_tree.specs.declared.tree.Class.{Class}
 use Rattle.jimple_tree.specs.declared.tree.Invoke.{Invoke}
 use Rattle.source_sink.specs.declared.line.Line.{Line}
 use Rattle.call_graph.specs.Calls.{IsOpenTo}
-use Rattle.call_graph.specs.Known.{IsKnown, targets_by}
+use Rattle.call_graph.specs.Known.{IsKnown}
 use Rattle.call_graph.specs.declared.known.KnownSig.{KnownSig}
 
 -- a list has an item just where it isn't empty
@@ -14,11 +14,11 @@ some_item xs true e = ((λ no. absurd (cc)), (λ has. let below = has.1.1 in let
 some_item [] false e = ((λ yes. absurd (cc)), (λ has. refl))
 some_item (x ∷ xs) false e = ((λ yes. (x, (0, omega arith, refl))), (λ has. refl))
 
-pub opens_to : (cs : List Class) (lines : List Line) (invoke : Invoke) (known : KnownSig) (targets : List MethodId) (empty : Bool) → IsKnown cs lines invoke.sig known → targets ≡ targets_by invoke.kind known → empty ≡ (length targets == 0)
+pub opens_to : (cs : List Class) (lines : List Line) (invoke : Invoke) (known : KnownSig) (targets : List MethodId) (empty : Bool) → IsKnown cs lines invoke.kind invoke.sig known → targets ≡ known.targets → empty ≡ (length targets == 0)
     → IsTrue (not empty) ↔ ((n : MethodId) × IsOpenTo cs lines invoke n)
 opens_to cs lines invoke known targets empty is are none = (
   (λ yes. let some = (some_item targets empty none).0 yes in
-      let both = (is.targets invoke.kind some.0).0 (subst (λ (ms : List MethodId). Contains ms some.0) are some.1) in
+      let both = (is.targets some.0).0 (subst (λ (ms : List MethodId). Contains ms some.0) are some.1) in
       (some.0, record { target = both.0; plain = both.1 })),
-  (λ has. (some_item targets empty none).1 (has.0, subst (λ (ms : List MethodId). Contains ms has.0) (sym are) ((is.targets invoke.kind has.0).1 (has.1.target, has.1.plain)))),
+  (λ has. (some_item targets empty none).1 (has.0, subst (λ (ms : List MethodId). Contains ms has.0) (sym are) ((is.targets has.0).1 (has.1.target, has.1.plain)))),
 )

@@ -23,7 +23,7 @@ use Rattle.class_table.specs.Methods.{stmts_in}
 use Rattle.class_table.proofs.Signed.{one_item}
 use Rattle.field_table.specs.Fields.{stmt_refs, place_refs, rhs_refs, references}
 use Rattle.call_graph.specs.Calls.{IsOpenTo, call_in}
-use Rattle.call_graph.specs.Known.{IsKnown, targets_by}
+use Rattle.call_graph.specs.Known.{IsKnown}
 use Rattle.call_graph.specs.declared.known.KnownSig.{KnownSig}
 use Rattle.statement_views.specs.Seen.{AreSeen, AreTargets, Sees, assign_ref, read_ref, ref_of}
 
@@ -108,15 +108,15 @@ each_more {X} P xs x each last s y (below, is) = by (early_or_last s (length xs)
 
 module _ (cs : List Class) (lines : List Line) where
   -- what is known of a call gives its targets
-  pub targets_are : (s : Stmt) (call : Invoke) (k : KnownSig) (row : List MethodId) → call_in s ≡ Some call → IsKnown cs lines call.sig k → row ≡ targets_by call.kind k → AreTargets cs lines s row
+  pub targets_are : (s : Stmt) (call : Invoke) (k : KnownSig) (row : List MethodId) → call_in s ≡ Some call → IsKnown cs lines call.kind call.sig k → row ≡ k.targets → AreTargets cs lines s row
   targets_are s call k row is known are = record {
-    ascending = subst (λ (ms : List MethodId). IsStrictlyIncreasing (map (λ (m : MethodId). m.0) ms)) (sym are) (known.ascending call.kind);
+    ascending = subst (λ (ms : List MethodId). IsStrictlyIncreasing (map (λ (m : MethodId). m.0) ms)) (sym are) known.ascending;
     exact = λ n. (
-      (λ has. let both = (known.targets call.kind n).0 (subst (λ (ms : List MethodId). Contains ms n) are has) in (call, is, record { target = both.0; plain = both.1 })),
+      (λ has. let both = (known.targets n).0 (subst (λ (ms : List MethodId). Contains ms n) are has) in (call, is, record { target = both.0; plain = both.1 })),
       (λ t.
           let one : t.0 ≡ call = same_Some t.0 call (sym t.1 ∙ is) in
           let to = subst (λ (c : Invoke). IsOpenTo cs lines c n) one t.2 in
-          subst (λ (ms : List MethodId). Contains ms n) (sym are) ((known.targets call.kind n).1 (to.target, to.plain))),
+          subst (λ (ms : List MethodId). Contains ms n) (sym are) ((known.targets n).1 (to.target, to.plain))),
     );
   }
 

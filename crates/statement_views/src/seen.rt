@@ -81,8 +81,9 @@ fn add_targets(
 {
     match call_of(stmt) {
         Some(call) => {
-            let number = known.know(alloc, &call.sig)?;
-            targets.push_row(known.at(number).targets(call.kind))
+            let number = known.know(alloc, call.kind, &call.sig)?;
+            let sig = known.at(call.kind, number);
+            targets.push_row(sig.targets.as_slice())
         }
         None => targets.push_row(&[]),
     }

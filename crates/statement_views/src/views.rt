@@ -86,8 +86,8 @@ fn call_view(
     ensures view { IfOk result (IsViewOfCall known.old.classes known.old.lines at to invoke.now) }
 {
     let args = locals_of(alloc, invoke.args.as_slice())?;
-    let number = known.know(alloc, &invoke.sig)?;
-    let sig = known.at(number);
+    let number = known.know(alloc, invoke.kind, &invoke.sig)?;
+    let sig = known.at(invoke.kind, number);
     Ok(View::Call(CallView {
         stmt: at,
         result: to,
@@ -95,7 +95,7 @@ fn call_view(
         args: Seq::from_vec(args),
         source: sig.said.source,
         sink: sig.said.sink,
-        is_open: !sig.targets(invoke.kind).is_empty(),
+        is_open: !sig.targets.as_slice().is_empty(),
     }))
 }
 

@@ -2,8 +2,9 @@
 // a catch, a source and a sink.
 use super::statements::are_ids;
 use super::texts::table_of;
-use app_program::assemble;
-use clean_base::{FieldId, MethodId, StmtId, Stop};
+use access_path::{Base, CallView, View};
+use app_program::{Entry, assemble};
+use clean_base::{FieldId, LocalId, MethodId, StmtId, Stop};
 use program_code::Program;
 use source_sink::{read_lists, read_sig};
 use std::alloc::Global;
@@ -68,7 +69,7 @@ pub fn program_of(alloc: Global, text: &[u8], list: &[u8], entry: &[u8]) -> Resu
     let table = table_of(alloc, text)?;
     let lists = read_lists(alloc, list, 1)?;
     match read_sig(alloc, entry) {
-        Ok(Some(entry)) => assemble(alloc, table, &lists, &entry),
+        Ok(Some(sig)) => assemble(alloc, table, &lists, &Entry::Method(sig)),
         _ => Err(Stop::OutOfMemory),
     }
 }
@@ -154,43 +155,49 @@ fn is_stmt(program: &Program, s: StmtId, row: &StmtRow) -> bool {
         && has_targets(program, s)
 }
 
-static VIEWS: [(u32, &[u8]); 10] = [
-    (0, b"Kill { to: LocalId(0) }"),
-    (
-        1,
-        b"Call(CallView { stmt: StmtId(1), result: Some(LocalId(1)), receiver: None, args: Seq { items: [] }, source: true, sink: false, is_open: false })",
-    ),
-    (
-        2,
-        b"Call(CallView { stmt: StmtId(2), result: None, receiver: Some(LocalId(0)), args: Seq { items: [Some(LocalId(1))] }, source: false, sink: false, is_open: true })",
-    ),
-    (
-        3,
-        b"Load { to: LocalId(2), base: LocalId(0), field: FieldId(3) }",
-    ),
-    (
-        4,
-        b"StaticStore { field: FieldId(4), from: Some(LocalId(2)) }",
-    ),
-    (
-        5,
-        b"Call(CallView { stmt: StmtId(5), result: None, receiver: None, args: Seq { items: [Some(LocalId(2)), None] }, source: false, sink: true, is_open: false })",
-    ),
-    (7, b"Copy { to: LocalId(2), from: Thrown }"),
-    (9, b"Copy { to: LocalId(0), from: This }"),
-    (
-        11,
-        b"Store { base: LocalId(0), field: FieldId(3), from: Some(LocalId(1)) }",
-    ),
-    (14, b"Throw { value: Some(LocalId(0)) }"),
-];
+// Some statements with their views.
+const SEEN: [u32; 10] = [0, 1, 2, 3, 4, 5, 7, 9, 11, 14];
 
-fn is_seen(alloc: Global, program: &Program, s: StmtId, told: &[u8]) -> Result<bool, Fail> {
-    if s.0 >= program.stmts() {
-        return Ok(false);
+// The calls of the source, of both methods, and of the sink.
+fn is_call(s: u32, call: &CallView) -> bool {
+    let said = (call.source, call.sink, call.is_open);
+    let args = call.args.as_slice();
+    match s {
+        1 => said == (true, false, false) && call.result == Some(LocalId(1)) && args.is_empty(),
+        2 => {
+            said == (false, false, true)
+                && call.receiver == Some(LocalId(0))
+                && args == [Some(LocalId(1))].as_slice()
+        }
+        5 => said == (false, true, false) && args == [Some(LocalId(2)), None].as_slice(),
+        _ => false,
     }
-    let view = program.view(s);
-    Ok(format!(in alloc; "{view:?}")?.as_bytes() == told)
+}
+
+fn is_view(s: u32, view: &View) -> bool {
+    match view {
+        View::Copy {
+            to,
+            from: Base::Thrown,
+        } => (s, to.0) == (7, 2),
+        View::Copy {
+            to,
+            from: Base::This,
+        } => (s, to.0) == (9, 0),
+        View::Kill { to } => (s, to.0) == (0, 0),
+        View::Load { to, base, field } => (s, to.0, base.0, field.0) == (3, 2, 0, 3),
+        View::Store { base, field, from } => {
+            (s, base.0, field.0) == (11, 0, 3) && *from == Some(LocalId(1))
+        }
+        View::StaticStore { field, from } => (s, field.0) == (4, 4) && *from == Some(LocalId(2)),
+        View::Call(call) => call.stmt.0 == s && is_call(s, call),
+        View::Throw { value } => s == 14 && *value == Some(LocalId(0)),
+        _ => false,
+    }
+}
+
+fn is_seen(program: &Program, s: StmtId) -> bool {
+    s.0 < program.stmts() && is_view(s.0, program.view(s))
 }
 
 // The class and the name of each field but the two that no class declares.
@@ -227,11 +234,8 @@ fn a_program_of_four_classes(rt: HostRuntime) -> Result<(), Fail> {
     for (s, row) in STMTS.iter().enumerate() {
         assert!(rt; is_stmt(&program, StmtId(s as u32), row), "statement {s}");
     }
-    for (s, told) in &VIEWS {
-        assert!(rt;
-            is_seen(rt.alloc(), &program, StmtId(*s), told)?,
-            "statement {s}"
-        );
+    for s in &SEEN {
+        assert!(rt; is_seen(&program, StmtId(*s)), "statement {s}");
     }
     for (place, (class, name)) in FIELDS.iter().enumerate() {
         assert!(rt;

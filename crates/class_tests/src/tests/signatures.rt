@@ -2,6 +2,7 @@
 use clean_base::{InputFault, Name, Stop};
 use jimple_tree::{JType, Sig};
 use source_sink::{Kind, read_lists, read_sig};
+use std::alloc::Global;
 use std::test::Fail;
 
 struct Row {
@@ -163,10 +164,12 @@ struct Asked {
 
 const TWO: &[u8] = b"<S: int src()> -> _SOURCE_\n<S: void snk(int)> -> _SINK_\n";
 
-const BOTH: &[u8] =
+const SUM: &[u8] =
     b"<S: int m()> -> _SOURCE_\n<S: int n()> -> _SINK_\n<S: int m(int,  int)> -> _SOURCE_\n<S: int m()> -> _SINK_\n";
 
-static KINDS: [Asked; 11] = [
+const BRACKETS: &[u8] = b"<S: int[] m(int[][],  T)> -> _SINK_\n";
+
+static KINDS: [Asked; 13] = [
     Asked {
         list: b"",
         class: b"S",
@@ -224,43 +227,115 @@ static KINDS: [Asked; 11] = [
         sink: false,
     },
     Asked {
-        list: BOTH,
+        list: SUM,
         class: b"S",
         sig: b"<S: int m()>",
         source: true,
         sink: true,
     },
     Asked {
-        list: BOTH,
+        list: SUM,
         class: b"S",
         sig: b"<S: int m(int,int)>",
         source: true,
         sink: false,
     },
     Asked {
-        list: BOTH,
+        list: SUM,
         class: b"S",
         sig: b"<S: int n()>",
         source: false,
         sink: true,
     },
+    Asked {
+        list: BRACKETS,
+        class: b"S",
+        sig: b"<S: int[] m(int[][],T)>",
+        source: false,
+        sink: true,
+    },
+    Asked {
+        list: BRACKETS,
+        class: b"S",
+        sig: b"<S: int m(int[][],T)>",
+        source: false,
+        sink: false,
+    },
 ];
 
-static NO_LISTS: [&[u8]; 14] = [
-    b"\n",
-    b"<S: int src()> -> _SOURCE_",
-    b"<S: int src()> -> _SOURCE_\n<S: int src()> -> _SINK_",
-    b"<S: int src()> => _SOURCE_\n",
-    b"% sources\n<S: int src()> -> _SOURCE_\n",
-    b"<S: int src()> -> _BOTH_\n",
-    b"<S: int src()>  -> _SOURCE_\n",
-    b"<S: int src()> -> _SOURCE_ \n",
-    b" <S: int src()> -> _SOURCE_\n",
-    b"<S: int src()> -> _SOURCE_\r\n",
-    b"<S: int src()> -> _SOURCE_\n\n",
-    b"<S:  int src()> -> _SOURCE_\n",
-    b"<S: int  src()> -> _SOURCE_\n",
-    b"<S: void snk(int[])> -> _SINK_\n",
+const NOTHING: Kind = Kind {
+    source: false,
+    sink: false,
+};
+
+const SOURCE: Kind = Kind {
+    source: true,
+    sink: false,
+};
+
+const SINK: Kind = Kind {
+    source: false,
+    sink: true,
+};
+
+const BOTH: Kind = Kind {
+    source: true,
+    sink: true,
+};
+
+// Lists with what they say of `<S: int m()>`, or with their first line that isn't understood.
+static LISTS: [(&[u8], Result<Kind, u64>); 39] = [
+    (b"", Ok(NOTHING)),
+    (b"\n", Ok(NOTHING)),
+    (b"\n \t\r\n<S: int m()> -> _SINK_\n\n", Ok(SINK)),
+    (b"<S: int m()> -> _SOURCE_\n\r\n", Ok(SOURCE)),
+    (b"<S: int m()> -> _SOURCE_\n\r", Err(2)),
+    (
+        b"% <S: int m()> -> _SOURCE_\n<S: int m()> -> _SINK_\n",
+        Ok(SINK),
+    ),
+    (b" \t% no entry ->\n", Ok(NOTHING)),
+    (b"<S: int m()> -> _SOURCE_", Ok(SOURCE)),
+    (
+        b"<S: int m()> -> _SOURCE_\n<S: int m()> -> _SINK_",
+        Ok(BOTH),
+    ),
+    (b"<S: int m()> -> _BOTH_\n", Ok(BOTH)),
+    (
+        b"<S: int m()> -> _SOURCE_\r\n<S: int m()> -> _SINK_\r\n",
+        Ok(BOTH),
+    ),
+    (b"<S: int m()> -> _SOURCE_\r", Err(1)),
+    (b"<S: int m()> -> _SOURCE_\r\r\n", Err(1)),
+    (b"<S: int m()> -> _SOURCE_ \r\n", Ok(SOURCE)),
+    (b"<S: int m()> -> _SOURCE_\r \n", Err(1)),
+    (b"\t <S: int m()>\t -> \t_SOURCE_ \t\n", Ok(SOURCE)),
+    (b"<S:  int   m()> -> _SOURCE_\n", Ok(SOURCE)),
+    (b"<S:int m()> -> _SOURCE_\n", Err(1)),
+    (b"<S: int m()> p.READ_SMS q -> _SOURCE_\n", Ok(SOURCE)),
+    (b"<S: int m()> - > => _SOURCE_ % -> _SINK_\n", Ok(SINK)),
+    (b"<S: int m()> p\rq -> _SOURCE_\n", Err(1)),
+    (b"<S: int m()>\r -> _SOURCE_\n", Err(1)),
+    (b"<S: int m()> -> -> _SOURCE_\n", Err(1)),
+    (b"<S: int m()> p -> q -> _SOURCE_\n", Err(1)),
+    (b"<S: int m()> => _SOURCE_\n", Err(1)),
+    (b"<S: int m()> _SOURCE_\n", Err(1)),
+    (b"<S: int m()> ->\n", Err(1)),
+    (b"<S: int m()>\n", Err(1)),
+    (b"-> _SOURCE_\n", Err(1)),
+    (b"<S: int m()> -> _SOURCE_ p\n", Err(1)),
+    (b"<S: int m()> -> _SOURCE_ _SINK_\n", Err(1)),
+    (b"<S: int m()> -> _source_\n", Err(1)),
+    (b"<S: int m()> -> _SOURCE\n", Err(1)),
+    (b"<S: int m()>-> _SOURCE_\n", Err(1)),
+    (b"<S: int m()> ->_SOURCE_\n", Err(1)),
+    (b"<S: int m()>p -> _SOURCE_\n", Err(1)),
+    (b"<S: int m()> -> _SOURCE_ % no comment\n", Err(1)),
+    (b"<S: int m()> -> _SOURCE_\nx\ny\n", Err(2)),
+    (
+        b"% a\n\n<S: int m()> -> _SOURCE_\n<S: int m(> -> _SINK_\n",
+        Err(4),
+    ),
 ];
 
 #[test]
@@ -282,15 +357,35 @@ fn kinds_of_methods(rt: HostRuntime) -> Result<(), Fail> {
     Ok(())
 }
 
-#[test]
-fn bytes_that_are_no_list(rt: HostRuntime) {
-    for bytes in &NO_LISTS {
-        match read_lists(rt.alloc(), bytes, 3) {
-            Err(stop) => assert!(rt;
-                stop == Stop::Fault(InputFault::NotYet { file: 3 }),
-                "{bytes:?} {stop:?}"
-            ),
-            Ok(lists) => assert!(rt; false, "{bytes:?} {lists:?}"),
+fn kind_in(alloc: Global, list: &[u8], class: &Name, sig: &Sig) -> Result<Kind, Stop> {
+    let lists = read_lists(alloc, list, 3)?;
+    Ok(lists.kind(class, sig))
+}
+
+fn is_told_of(found: &Result<Kind, Stop>, told: &Result<Kind, u64>) -> bool {
+    match told {
+        Ok(kind) => *found == Ok(*kind),
+        Err(line) => {
+            *found
+                == Err(Stop::Fault(InputFault::BadLine {
+                    file: 3,
+                    line: *line,
+                }))
         }
     }
+}
+
+#[test]
+fn forms_of_lists(rt: HostRuntime) -> Result<(), Fail> {
+    let class = Name::from_vec(Vec::from_slice(rt.alloc(), b"S")?);
+    match read_sig(rt.alloc(), b"<S: int m()>")? {
+        Some(sig) => {
+            for (list, told) in &LISTS {
+                let found = kind_in(rt.alloc(), list, &class, &sig);
+                assert!(rt; is_told_of(&found, told), "{list:?} {found:?}");
+            }
+        }
+        None => assert!(rt; false, "no signature"),
+    }
+    Ok(())
 }

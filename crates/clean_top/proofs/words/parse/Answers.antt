@@ -1,24 +1,29 @@
-use Rattle.clean_top.proofs.Asked.{unformed, unspelled, untasked, asks_for, asks_once}
+use Rattle.clean_top.proofs.Asked.{check_asked, graph_asked, main_asked, serial_asked, serial_fits, unasked}
 use Rattle.clean_top.proofs.words.parse.Goals as goal
 
-pub returns-in_default-clause-none : goal.returns-in_default-clause-none
-returns-in_default-clause-none c = unformed c.args.words.now c.in_default.ensures.none
+pub returns-in-Some-clause-some : goal.returns-in-Some-clause-some
+returns-in-Some-clause-some c = rw c.check.ensures (check_asked c.args.words.now c.in-Some.classes (rw c.in-Some.is at c.in_ok-classes.ensures.some))
 
-pub returns-in_default-2-clause-none : goal.returns-in_default-2-clause-none
-returns-in_default-2-clause-none c =
-    unspelled c.args.words.now _ _ _ _ c.in-Some.ensures.some (rw (c.in_default-2.is, c.as_bytes.ensures.value) at c.in_ok-entry.ensures.none)
+pub returns-in-Some-2-clause-some : goal.returns-in-Some-2-clause-some
+returns-in-Some-2-clause-some c = rw c.in_ok-main.ensures (main_asked c.args.words.now c.in-Some-2.components (rw c.in-Some-2.is at c.in_ok-components.ensures.some))
 
-pub returns-in_default-task_of-clause-none : goal.returns-in_default-task_of-clause-none
-returns-in_default-task_of-clause-none c =
-    let found = rw (c.in-Some-2.is, c.as_bytes.ensures.value) at c.in_ok-entry.ensures.some in
-    untasked c.args.words.now _ _ _ _ c.in-Some.ensures.some c.in-Some-2.entry found.1 c.in_default-task_of.ensures.none
+pub returns-in-Some-3-clause-some : goal.returns-in-Some-3-clause-some
+returns-in-Some-3-clause-some c =
+    let named = c.in_ok-names.ensures in
+    rw (named.names, named.start) (graph_asked c.args.words.now c.in-Some-3.input (rw c.in-Some-3.is at c.in_ok-input.ensures.some))
 
-pub returns-clause-some : goal.returns-clause-some
-returns-clause-some c =
-    let found = rw (c.in-Some-2.is, c.as_bytes.ensures.value) at c.in_ok-entry.ensures.some in
-    let places = c.in-Some.places in
-    let task = c.in-Some-task_of.task in
-    let words = c.args.words.now in (
-      asks_for words _ _ places.list.now places.classes.now c.in-Some.ensures.some c.in-Some-2.entry found.1 task c.in_ok-names.names c.in-Some-task_of.ensures.some c.in_ok-names.ensures found.0,
-      asks_once words _ _ places.list.now places.classes.now c.in-Some.ensures.some c.in-Some-2.entry found.1 task c.in_ok-names.names c.in-Some-task_of.ensures.some c.in_ok-names.ensures,
-    )
+pub returns-in-Some-4-clause-some : goal.returns-in-Some-4-clause-some
+returns-in-Some-4-clause-some c =
+    let named = c.in_ok-names-2.ensures in
+    rw (named.names, named.start) (serial_asked c.args.words.now c.in-Some-4.field-0 (rw c.in-Some-4.is at c.in_ok-input-2.ensures.some))
+
+pub returns-in-Some-4-clause-fits : goal.returns-in-Some-4-clause-fits
+returns-in-Some-4-clause-fits c =
+    let named = c.in_ok-names-2.ensures in
+    let only = rw c.in-Some-4.is at c.in_ok-input-2.ensures.some in
+    rw (named.names, named.start) (serial_fits c.args.words.now c.in-Some-4.field-0 only.is)
+
+pub returns-clause-none : goal.returns-clause-none
+returns-clause-none c =
+    unasked c.args.words.now (rw c.in_default.is at c.in_ok-classes.ensures.none) (rw c.in_default-2.is at c.in_ok-components.ensures.none)
+    (rw c.in_default-3.is at c.in_ok-input.ensures.none) (rw c.in_default-4.is at c.in_ok-input-2.ensures.none)

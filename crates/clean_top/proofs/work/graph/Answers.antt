@@ -1,32 +1,23 @@
 use Rattle.clean_stage.proofs.Stages.{next, stop_by, is_done}
 use Rattle.clean_top.proofs.work.graph.Goals as goal
 
-pub returns-in_err-classes : goal.returns-in_err-classes
-returns-in_err-classes c = stop_by _ _ c.in_err-classes.field-0.0 c.from_residual.ensures.1 (rw c.as_slice.ensures at c.in_err-classes.ensures.comes)
-
-pub returns-in_err-lists : goal.returns-in_err-lists
-returns-in_err-lists c =
-    next _ _ (rw c.as_slice.ensures at c.in_ok-classes.ensures.comes)
-    (stop_by _ _ c.in_err-lists.field-0.0 c.from_residual-in_err-lists.ensures.1 (rw c.as_slice-2.ensures at c.in_err-lists.ensures))
-
-pub returns-in_err-table : goal.returns-in_err-table
-returns-in_err-table c =
-    next _ _ (rw c.as_slice.ensures at c.in_ok-classes.ensures.comes)
-    (next _ _ (rw c.as_slice-2.ensures at c.in_ok-lists.ensures)
-    (stop_by _ _ c.in_err-table.field-0.0 c.from_residual-in_err-table.ensures.1 c.in_err-table.ensures))
+pub returns-in_err-input : goal.returns-in_err-input
+returns-in_err-input c = stop_by _ _ c.in_err-input.field-0.0 c.from_residual.ensures.1 c.in_err-input.ensures
 
 pub returns-in_err-root : goal.returns-in_err-root
 returns-in_err-root c =
-    next _ _ (rw c.as_slice.ensures at c.in_ok-classes.ensures.comes)
-    (next _ _ (rw c.as_slice-2.ensures at c.in_ok-lists.ensures)
-    (next _ _ c.in_ok-table.ensures
-    (stop_by _ _ c.in_err-root.field-0.0 c.from_residual-in_err-root.ensures.1 c.in_err-root.ensures.comes)))
+    next _ _ c.in_ok-input.ensures
+    (stop_by _ _ c.in_err-root.field-0.0 c.from_residual-in_err-root.ensures.1 c.in_err-root.ensures.comes)
+
+pub returns-in_err-calls : goal.returns-in_err-calls
+returns-in_err-calls c =
+    next _ _ c.in_ok-input.ensures
+    (next _ _ c.in_ok-root.ensures.comes
+    (stop_by _ _ c.in_err-calls.field-0.0 c.from_residual-in_err-calls.ensures.1 c.in_err-calls.ensures))
 
 pub returns : goal.returns
 returns c =
-    next _ _ (rw c.as_slice.ensures at c.in_ok-classes.ensures.comes)
-    (next _ _ (rw c.as_slice-2.ensures at c.in_ok-lists.ensures)
-    (next _ _ c.in_ok-table.ensures
+    next _ _ c.in_ok-input.ensures
     (next _ _ c.in_ok-root.ensures.comes
     (next _ _ c.in_ok-calls.ensures
-    (rw c.in_ok-draw.ensures (is_done _))))))
+    (rw c.in_ok-draw.ensures (is_done _))))

@@ -5,7 +5,7 @@ use Rattle.clean_top.proofs.work.report_of.Goals as goal
 pub returns-in-Err : goal.returns-in-Err
 returns-in-Err c =
     let refused = rw (c.in_ok-state.ensures.problem, c.new-problem.ensures.k, c.new-problem.ensures.program) at c.in-Err.ensures.refused in
-    rw c.of_commit.ensures (commit_stops c.args.program.now c.in_ok-state.state.view.max_edges (ap (λ v. v.max_edges) c.in_ok-state.ensures.opened.is) c.in-Err.stop refused)
+    rw c.of_commit.ensures (commit_stops c.args.tuning c.args.program.now c.in_ok-state.state.view.max_edges (ap (λ v. v.max_edges) c.in_ok-state.ensures.opened.is) c.in-Err.stop refused)
 
 pub write_report-requires-clause-own : goal.write_report-requires-clause-own
 write_report-requires-clause-own c =
@@ -17,7 +17,7 @@ write_report-requires-clause-own c =
 pub returns : goal.returns
 returns c =
     let room = ap (λ v. v.max_edges) c.in_ok-state.ensures.opened.is in
-    report_comes c.args.program.now _
+    report_comes c.args.tuning c.args.program.now _
     (record {
       edges = c.in-Ok.answer.edges;
       within = rw room at c.in-Ok.ensures.limit;

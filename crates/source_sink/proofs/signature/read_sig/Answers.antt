@@ -1,5 +1,5 @@
 use Rattle.std.proofs.Common.{◌≡◌, List, ℕ, [], true, false, Some, None, ap, ◌∙◌, sym}
-use Rattle.source_sink.specs.declared.cursor.Spaced.{Spaced}
+use Rattle.jimple_tree.specs.declared.tree.Sig.{Sig}
 use Rattle.source_sink.specs.Reading.{Read, read_sig}
 use Rattle.source_sink.proofs.Exact.{read_is_spelled, one_sig, none_left, none_spelled}
 use Rattle.source_sink.proofs.signature.read_sig.Goals as goal
@@ -14,7 +14,7 @@ returns-clause-some c =
     let left = c.take_sig.new.self.left.now in
     let e : read_sig c.args.text.now ≡ Some (c.in-Ok.found, left) = ap read_sig (sym c.new-cursor.ensures) ∙ c.in-Ok.ensures in
     let end : left ≡ [] = c.is_at_end.ensures.at_end.0 c.if-not-is_at_end.false in
-    let whole : read_sig c.args.text.now ≡ Some (c.in-Ok.found, []) = e ∙ ap (λ (xs : List ℕ). let r : Read Spaced = Some (c.in-Ok.found, xs) in r) end in
+    let whole : read_sig c.args.text.now ≡ Some (c.in-Ok.found, []) = e ∙ ap (λ (xs : List ℕ). let r : Read Sig = Some (c.in-Ok.found, xs) in r) end in
     (read_is_spelled c.args.text.now c.in-Ok.found whole, λ s h. one_sig c.args.text.now c.in-Ok.found [] whole s h)
 
 pub returns-then-not-is_at_end-clause-none : goal.returns-then-not-is_at_end-clause-none

@@ -11,6 +11,6 @@ pub returns-in_ok-number-in-Some-clause-added : goal.returns-in_ok-number-in-Som
 returns-in_ok-number-in-Some-clause-added c =
     let known = c.args.known.now in
     let call = c.in-Some.call.now in
-    let is = as_before (λ (cs : List Class) (ls : List Line). IsKnown cs ls call.sig c.at.result.now) c.know.new.self.classes known.classes c.know.new.self.lines known.lines c.in_ok-number-in-Some.ensures.classes c.in_ok-number-in-Some.ensures.lines
-    (c.at.ensures call.sig c.in_ok-number-in-Some.ensures.at) in
-    on_ok_weaker c.push_row.result (λ added. (c.targets.result.now, targets_are known.classes known.lines c.args.stmt.now call c.at.result.now c.targets.result.now c.in-Some.ensures.some is c.targets.ensures, added)) c.push_row.ensures
+    let is = as_before (λ (cs : List Class) (ls : List Line). IsKnown cs ls call.kind call.sig c.at-sig.result.now) c.know.new.self.classes known.classes c.know.new.self.lines known.lines c.in_ok-number-in-Some.ensures.classes c.in_ok-number-in-Some.ensures.lines
+    (c.at-sig.ensures call.sig c.in_ok-number-in-Some.ensures.at) in
+    on_ok_weaker c.push_row.result (λ added. (c.as_slice.result.now, targets_are known.classes known.lines c.args.stmt.now call c.at-sig.result.now c.as_slice.result.now c.in-Some.ensures.some is c.as_slice.ensures, added)) c.push_row.ensures
