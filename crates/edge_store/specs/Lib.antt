@@ -1,0 +1,5 @@
+pub mod Adds
+pub mod Pages
+pub mod Pool
+pub mod Store
+pub mod Table
