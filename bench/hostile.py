@@ -1,5 +1,5 @@
 #!/usr/bin/env python3
-"""Times `clean graph` on generated class files that ask for the most work of a kind.
+"""Times `clean graph` and `clean serial` on generated class files that ask for the most work of a kind.
 
 Prints for each the size of its text, the code and the last line of the output, seconds of user time, seconds in all and
 the peak of memory. Run it from the project's root after `./clean` was built:
@@ -79,13 +79,35 @@ def app(count):
         yield "}\n"
 
 
+def switch(count):
+    """A value that passes a switch of so many cases, each with a place of its own."""
+    yield "class A { static void m() { int v;\nv = staticinvoke <S: int src()>();\ntableswitch(v) {\n"
+    for number in range(count):
+        yield f"case {number}: goto place{number};\n"
+    yield "default: goto end; }\n"
+    for number in range(count):
+        yield f"place{number}: goto end;\n"
+    yield "end: staticinvoke <S: void snk(int)>(v); return; } }\n"
+
+
+def targets(count):
+    """A value that goes through one call into so many methods, and back."""
+    yield "interface T { int v(int); }\n"
+    yield "class A { static void m() { T t; int v;\nv = staticinvoke <S: int src()>();\n"
+    yield "v = interfaceinvoke t.<T: int v(int)>(v); staticinvoke <S: void snk(int)>(v); return; } }\n"
+    for number in range(count):
+        yield f"class C{number} implements T {{ int v(int) {{ int a; a := @parameter0: int; return a; }} }}\n"
+
+
 KINDS = {
-    "chain": (chain, 65_535),
-    "interfaces": (interfaces, 65_535),
-    "calls": (calls, 32_768),
-    "names": (names, 65_000),
-    "sites": (sites, 1_000_000),
-    "app": (app, 2_000),
+    "chain": ("graph", chain, 65_535),
+    "interfaces": ("graph", interfaces, 65_535),
+    "calls": ("graph", calls, 32_768),
+    "names": ("graph", names, 65_000),
+    "sites": ("graph", sites, 1_000_000),
+    "app": ("graph", app, 2_000),
+    "switch": ("serial", switch, 10_000),
+    "targets": ("serial", targets, 2_000),
 }
 
 
@@ -113,10 +135,10 @@ def main():
         folder = pathlib.Path(name)
         (folder / "L").write_bytes(LISTS)
         for kind in sys.argv[1:] or KINDS:
-            make, count = KINDS[kind]
+            command, make, count = KINDS[kind]
             text = "".join(make(count)).encode()
             (folder / "A.jimple").write_bytes(text)
-            code, last, user, seconds, memory = measured(program, folder, "graph", "--entry", ENTRY, "--lists", "L", "A.jimple")
+            code, last, user, seconds, memory = measured(program, folder, command, "--entry", ENTRY, "--lists", "L", "A.jimple")
             print(f"{kind:10} {len(text) / 1e6:6.1f} MB  code {code}  {user:6.2f} s user  {seconds:6.2f} s  {memory:7.0f} MB  {last}")
 
 

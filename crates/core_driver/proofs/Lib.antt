@@ -3,3 +3,4 @@ mod Left
 mod Hands
 mod Steps
 mod Taking
+mod Playing

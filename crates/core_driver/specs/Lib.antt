@@ -1,2 +1,3 @@
 pub mod More
 pub mod Driven
+pub mod Played

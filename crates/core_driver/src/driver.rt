@@ -7,11 +7,11 @@ ghost use Rattle.ifds_model.specs.Runs.{IsEdge, IsContext, IsLeak, HasCount, Lis
 ghost use Rattle.ifds_model.specs.State.{At};
 ghost use Rattle.ifds_model.specs.Events.{Commits};
 ghost use Rattle.solver_core.specs.Seen.{IsRight};
-ghost use Rattle.solver_core.specs.Answers.{IsOver};
+ghost use Rattle.solver_core.specs.Answers.{IsOver, IsStopped};
 ghost use Rattle.core_driver.specs.Driven.{IsRefused, IsReady, GoesOn, IsStep, HasGoneOn, kind_of, item_taken};
 
 use ifds_model::{Item, Problem, work};
-use solver_core::{Answer, CommitStop, State, Taken};
+use solver_core::{Answer, CommitStop, Committed, State, Taken};
 use std::alloc::Global;
 
 /// What one step did.
@@ -45,6 +45,31 @@ fn taken_item<P: Problem>(taken: &Taken<P>) -> Option<Item<P::Fact>>
     }
 }
 
+/// Commits the moves of the item that a worker has in hand.
+pub fn commit_item<P: Problem>(
+    alloc: Global,
+    state: &mut State<P>,
+    worker: u32,
+    item: Item<P::Fact>,
+) -> Result<(), CommitStop>
+    requires flies { At state.old.view.flights worker (Some item) }
+    requires sound { IsRight (P.machine state.old.problem) (P.reaches state.old.problem) state.old.view }
+    ensures problem { state.new.problem ≡ state.old.problem }
+    ensures event { OnOk result (Commits (P.machine state.old.problem) worker state.old.view state.new.view) }
+    ensures within { OnOk result (state.new.view.commits ≤ state.new.view.max_edges) }
+    ensures same { IfErr result (λ e. state.new.view ≡ state.old.view) }
+    ensures stopped { IfErr result (λ e. IsStopped (P.machine state.old.problem) item state.old.view e) }
+    ensures refused { IfErr result (λ e. IsRefused (P.machine state.old.problem) state.old.view.max_edges e) }
+{
+    let Ok(outcome) = work(alloc, state.problem(), item) else {
+        return Err(CommitStop::OutOfMemory);
+    };
+    match state.commit(worker, outcome)? {
+        Committed::Done => Ok(()),
+        Committed::GoneBack => unreachable!(),
+    }
+}
+
 // Commits the moves of the item that the first worker has in hand.
 fn carry_out<P: Problem>(
     alloc: Global,
@@ -59,10 +84,7 @@ fn carry_out<P: Problem>(
     ensures kind { IfOk result (λ s. s ≡ kind_of item) }
     ensures refused { IfErr result (λ e. IsRefused (P.machine state.old.problem) state.old.view.max_edges e) }
 {
-    let Ok(outcome) = work(alloc, state.problem(), item) else {
-        return Err(CommitStop::OutOfMemory);
-    };
-    state.commit(0, outcome)?;
+    commit_item(alloc, state, 0, item)?;
     Ok(kind(item))
 }
 

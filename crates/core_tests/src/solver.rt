@@ -5,8 +5,8 @@
 // back from 8, with 8; entered with 8 it holds 3 with 8, and 4 with 8 and 7: ten edges and three contexts.
 use crate::example::{Example, before, entered};
 use clean_base::{LocalId, StmtId};
-use core_driver::finish;
-use ifds_model::{Item, Move, work};
+use core_driver::{finish, play};
+use ifds_model::{Event, Item, Move, work};
 use solver_core::{CommitStop, State};
 use std::test::Fail;
 
@@ -53,18 +53,53 @@ fn the_moves_of_each_kind_of_item(rt: HostRuntime) -> Result<(), Fail> {
     Ok(())
 }
 
+// The root's first two edges are committed by turns, and the second worker is left with a second start of the callee,
+// where there is one. What can't happen is passed over: a take of what isn't there, a commit of nothing, and dropping.
+const EVENTS: [Event; 10] = [
+    Event::Take {
+        worker: 0,
+        place: 0,
+    },
+    Event::Take {
+        worker: 1,
+        place: 0,
+    },
+    Event::Commit { worker: 1 },
+    Event::Commit { worker: 0 },
+    Event::Take {
+        worker: 1,
+        place: 0,
+    },
+    Event::Back { worker: 1 },
+    Event::Take {
+        worker: 0,
+        place: 0,
+    },
+    Event::Commit { worker: 0 },
+    Event::Take {
+        worker: 1,
+        place: 1,
+    },
+    Event::Sweep,
+];
+
 #[test]
 fn a_program_worked_off(rt: HostRuntime) -> Result<(), Fail> {
     let marks = [LocalId(7), LocalId(8)];
     let table = [
-        (false, 4, 1, 2),
-        (false, 100, 1, 2),
-        (true, 10, 2, 3),
-        (true, 100, 2, 3),
+        (false, 4, 3, 1, 2),
+        (false, 100, 3, 1, 2),
+        (true, 10, 4, 2, 3),
+        (true, 100, 4, 2, 3),
     ];
-    for (recursive, max_edges, leaks, contexts) in table {
+    for (recursive, max_edges, held, leaks, contexts) in table {
         let problem = Example { recursive };
-        let state = State::open(rt.alloc(), &problem, 1, max_edges, 1)?;
+        let mut state = State::open(rt.alloc(), &problem, 1, max_edges, 2)?;
+        play(rt.alloc(), &mut state, &EVENTS).expect(&rt, "within the limit");
+        assert_eq!(rt;
+            (state.commits(), state.queued(), state.held()),
+            (2, 1, held)
+        );
         let answer = finish(rt.alloc(), state).expect(&rt, "within the limit");
         let edges = if recursive { 10 } else { 4 };
         assert_eq!(rt; answer.marks.as_slice(), &marks[..leaks]);

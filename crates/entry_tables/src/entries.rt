@@ -1,6 +1,6 @@
 // One list of entries, each once, in the order of adding. Numbered lists stand above; how the entries are kept stands
 // below.
-ghost use Rattle.std.specs.Prelude.{◌≡◌, ◌≤◌, ◌<◌, ◌+◌, ◌++◌, ◌∷◌, [], IsTrue, false, length, Contains, OnOk};
+ghost use Rattle.std.specs.Prelude.{◌≡◌, ◌⊎◌, ◌≤◌, ◌<◌, ◌+◌, ◌++◌, ◌∷◌, [], IsTrue, false, length, Contains, OnOk};
 ghost use Rattle.ifds_model.specs.State.{At, IsDistinct};
 
 use crate::kept::Kept;
@@ -62,7 +62,7 @@ impl<T: Plain> Entries<T> {
 
     /// Adds an entry at the end where it is not there yet, and tells whether it is new.
     pub fn add(&mut self, item: T) -> bool
-        requires { 0 < self.old.spare }
+        requires { Contains self.old.items item ⊎ (0 < self.old.spare) }
         ensures is_new { IsTrue result → ¬ Contains self.old.items item }
         ensures added { IsTrue result → self.new.items ≡ self.old.items ++ item ∷ [] }
         ensures was { result ≡ false → Contains self.old.items item }

@@ -1,6 +1,6 @@
 // How the entries of one list are kept: a few in a row that is searched in order, many in an ordered set. A list turns
 // from the one to the other where room is made, so that adding takes no memory. Nothing here knows what an entry is.
-ghost use Rattle.std.specs.Prelude.{◌≡◌, ◌≤◌, ◌<◌, ◌+◌, ◌-◌, ◌++◌, ◌∷◌, [], IsTrue, false, length, Contains, OnOk, IfOk, vec_len, vec_capacity};
+ghost use Rattle.std.specs.Prelude.{◌≡◌, ◌⊎◌, ◌≤◌, ◌<◌, ◌+◌, ◌-◌, ◌++◌, ◌∷◌, [], IsTrue, false, length, Contains, OnOk, IfOk, vec_len, vec_capacity};
 ghost use Rattle.indexmap.specs.IndexSet.{spare};
 ghost use Rattle.ifds_model.specs.State.{At, IsDistinct};
 ghost use Rattle.entry_tables.specs.Kept.{items_of, spare_of};
@@ -82,7 +82,7 @@ impl<T: Plain> Kept<T> {
 
     /// Adds an entry at the end where it is not there yet, and tells whether it is new.
     pub fn add(&mut self, item: T) -> bool
-        requires { 0 < spare_of self.old }
+        requires { Contains (items_of self.old) item ⊎ (0 < spare_of self.old) }
         ensures is_new { IsTrue result → ¬ Contains (items_of self.old) item }
         ensures added { IsTrue result → items_of self.new ≡ items_of self.old ++ item ∷ [] }
         ensures was { result ≡ false → Contains (items_of self.old) item }
@@ -98,7 +98,7 @@ impl<T: Plain> Kept<T> {
 
 // Adds an entry to a row where it is not there yet.
 fn add_short<T: Plain>(items: &mut Vec<T>, item: T) -> bool
-    requires { vec_len items.old < vec_capacity items.old }
+    requires { Contains items.old.items item ⊎ (vec_len items.old < vec_capacity items.old) }
     ensures is_new { IsTrue result → ¬ Contains items.old.items item }
     ensures added { IsTrue result → items.new.items ≡ items.old.items ++ item ∷ [] }
     ensures was { result ≡ false → Contains items.old.items item }

@@ -1,5 +1,5 @@
 // Ordered sets, whose items are numbered by their places. Tables and long lists of entries stand above.
-ghost use Rattle.std.specs.Prelude.{◌≡◌, ◌≤◌, ◌<◌, ◌+◌, ◌++◌, ◌∷◌, [], IsTrue, false, length, Contains, IfSome, IfNone};
+ghost use Rattle.std.specs.Prelude.{◌≡◌, ◌⊎◌, ◌≤◌, ◌<◌, ◌+◌, ◌++◌, ◌∷◌, [], IsTrue, false, length, Contains, IfSome, IfNone};
 ghost use Rattle.indexmap.specs.IndexSet.{spare};
 ghost use Rattle.ifds_model.specs.State.{At};
 
@@ -31,7 +31,7 @@ pub fn place_new<T: Plain>(set: &mut IndexSet<T>, item: T) -> usize
 
 /// Adds an item at the end where it is not there yet, and tells whether it is new.
 pub fn place_once<T: Plain>(set: &mut IndexSet<T>, item: T) -> bool
-    requires { 0 < spare set.old }
+    requires { Contains set.old.keys item ⊎ (0 < spare set.old) }
     ensures is_new { IsTrue result → ¬ Contains set.old.keys item }
     ensures added { IsTrue result → set.new.keys ≡ set.old.keys ++ item ∷ [] }
     ensures was { result ≡ false → Contains set.old.keys item }

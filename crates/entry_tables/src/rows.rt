@@ -1,6 +1,6 @@
 // Numbered lists of entries. Those that no number was given for yet are prepared here, empty and with room, so that
 // giving out a number takes no memory.
-ghost use Rattle.std.specs.Prelude.{◌≡◌, ◌≤◌, ◌<◌, ◌+◌, ◌-◌, ◌++◌, ◌∷◌, [], ℕ, max, IsTrue, false, length, replicate, slice_index, slice_set, Contains, OnOk, OnErr};
+ghost use Rattle.std.specs.Prelude.{◌≡◌, ◌⊎◌, ◌≤◌, ◌<◌, ◌+◌, ◌-◌, ◌++◌, ◌∷◌, [], ℕ, max, IsTrue, false, length, replicate, slice_index, slice_set, Contains, OnOk, OnErr};
 ghost use Rattle.ifds_model.specs.State.{At, IsDistinct};
 ghost use Rattle.entry_tables.specs.Lists.{list_at, KeepsRoom, UsesRoomAt};
 ghost use Rattle.entry_tables.specs.Rows.{IsEven};
@@ -118,7 +118,7 @@ impl<T: Plain> EntryRows<T> {
     /// Adds an entry at the end of a list where it is not there yet, and tells whether it is new.
     pub fn add(&mut self, at: usize, item: T) -> bool
         requires list { at < length self.old.lists }
-        requires room { 0 < slice_index self.old.rooms at }
+        requires room { Contains (list_at self.old.lists at) item ⊎ (0 < slice_index self.old.rooms at) }
         ensures is_new { IsTrue result → ¬ Contains (list_at self.old.lists at) item }
         ensures added { IsTrue result → self.new.lists ≡ slice_set self.old.lists at (list_at self.old.lists at ++ item ∷ []) }
         ensures was { result ≡ false → Contains (list_at self.old.lists at) item }

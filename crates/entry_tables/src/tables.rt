@@ -1,6 +1,6 @@
 // The tables of contexts: numbers, callers and exits. Room is made before, so that opening a context and adding an
 // entry take no memory.
-ghost use Rattle.std.specs.Prelude.{◌≡◌, ◌≤◌, ◌<◌, ◌+◌, ◌++◌, ◌∷◌, [], ℕ, IsTrue, false, length, slice_index, slice_set, Contains, IfSome, IfNone, IfOk, OnOk};
+ghost use Rattle.std.specs.Prelude.{◌≡◌, ◌⊎◌, ◌≤◌, ◌<◌, ◌+◌, ◌++◌, ◌∷◌, [], ℕ, IsTrue, false, length, slice_index, slice_set, Contains, IfSome, IfNone, IfOk, OnOk};
 ghost use Rattle.indexmap.specs.IndexSet.{spare};
 ghost use Rattle.ifds_model.specs.State.{At};
 ghost use Rattle.entry_tables.specs.Lists.{KeepsRoom};
@@ -134,7 +134,7 @@ impl<F: Plain> EntryTables<F> {
     pub fn add_caller(&mut self, callee: u64, caller: u64, call: StmtId) -> bool
         requires callee { callee < length self.old.contexts }
         requires caller { caller < length self.old.contexts }
-        requires room { 0 < slice_index self.old.spare_callers callee }
+        requires room { Contains (callers_of self.old callee) (call_site caller call) ⊎ (0 < slice_index self.old.spare_callers callee) }
         ensures is_new { IsTrue result → ¬ Contains (callers_of self.old callee) (call_site caller call) }
         ensures added { IsTrue result → self.new.callers ≡ slice_set self.old.callers callee (callers_of self.old callee ++ call_site caller call ∷ []) }
         ensures was { result ≡ false → Contains (callers_of self.old callee) (call_site caller call) }
@@ -152,7 +152,7 @@ impl<F: Plain> EntryTables<F> {
     /// Adds an exit of a context where it is not there yet, and tells whether it is new.
     pub fn add_exit(&mut self, context: u64, exit: F) -> bool
         requires context { context < length self.old.contexts }
-        requires room { 0 < slice_index self.old.spare_exits context }
+        requires room { Contains (exits_of self.old context) exit ⊎ (0 < slice_index self.old.spare_exits context) }
         ensures is_new { IsTrue result → ¬ Contains (exits_of self.old context) exit }
         ensures added { IsTrue result → self.new.exits ≡ slice_set self.old.exits context (exits_of self.old context ++ exit ∷ []) }
         ensures was { result ≡ false → Contains (exits_of self.old context) exit }

@@ -1,6 +1,7 @@
 mod Flown
 mod Used
 mod RoomLeft
+mod Standing
 mod Prepared
 mod MovesTaken
 pub mod Counted

@@ -1,8 +1,8 @@
 -- Works that are taken and given back, seen as items.
-use Rattle.std.specs.Prelude.{◌≡◌, ◌≤◌, ◌<◌, ℕ, suc, ◌+◌, ◌-◌, ◌^◌, min, List, [], ◌∷◌, ◌++◌, length, map, slice_set, slice_index_or, Contains, Option, Some, None}
+use Rattle.std.specs.Prelude.{◌≡◌, ◌≤◌, ◌<◌, ℕ, suc, ◌+◌, ◌-◌, ◌^◌, ◌⊎◌, min, List, [], ◌∷◌, ◌++◌, length, map, remove, slice_set, slice_index_or, Option, Some, None}
 use Rattle.std.proofs.Common.{arith, sym, ◌∙◌, ap, subst, inl, inr, refl}
 use Rattle.std.proofs.Math.ListN.{length-set}
-use Rattle.std.proofs.lemmas.List.{map-append, map-set}
+use Rattle.std.proofs.lemmas.List.{length-map, map-append, map-set}
 use Rattle.std.proofs.lemmas.List.Elements.{Contains-push_cases}
 use Rattle.clean_base.specs.declared.ids.MethodId.{MethodId}
 use Rattle.entry_tables.specs.declared.tables.CallSite.{CallSite}
@@ -11,7 +11,8 @@ use Rattle.ifds_model.specs.declared.node.Item.{Item}
 use Rattle.ifds_model.specs.Machine.{Machine}
 use Rattle.ifds_model.specs.State.{View, At}
 use Rattle.ifds_model.specs.Events.{Takes, GivesBack}
-use Rattle.ifds_model.proofs.Members.{at_set}
+use Rattle.indexmap.proofs.SetLemmas.{map-remove}
+use Rattle.ifds_model.proofs.Members.{at_set, removed_was}
 use Rattle.ifds_model.proofs.Requeued.{some_same, take_kept, back_kept}
 use Rattle.solver_core.specs.Answers.{IsIdle, IsOver}
 use Rattle.solver_core.specs.Hands.{in_hand}
@@ -27,6 +28,10 @@ no_flight : {F : Type 0} (root : Context F) (cs : List (Context F)) (o : Option 
 no_flight root cs None same = refl
 no_flight root cs (Some v) same = cc (same)
 
+no_items : {X : Type 0} (xs : List X) → length xs ≡ 0 → xs ≡ []
+no_items [] none = refl
+no_items (x ∷ xs) none = absurd (omega (arith, none))
+
 -- a flight that is none of the view is none of the numbers
 pub idle_work : {F : Type 0} (root : Context F) (cs : List (Context F)) (flights : List (Option (Pending F))) (w : ℕ) → At (map (flight_of root cs) flights) w None → At flights w None
 idle_work {F} root cs flights w at =
@@ -37,27 +42,22 @@ module _ {F M : Type 0} (root : Context F) (cs : List (Context F)) (callers : Li
   abbrev seen : List (Pending F) → List (Option (Pending F)) → ℕ → View F M
   seen queue flights takes = view_of root cs callers exits edges queue flights marks commits lag takes period max_edges
 
-  pub sent : (rest : List (Pending F)) (flights : List (Option (Pending F))) (v : Pending F) (w takes : ℕ) → At (map (flight_of root cs) flights) w None
-      → Takes w 0 (seen (v ∷ rest) flights takes) (seen rest (slice_set flights w (Some v)) (min (takes + 1) (2 ^ 64 - 1)))
-  sent rest flights v w takes idle = record {
+  -- a work that is taken from its place
+  pub sent : (queue rest : List (Pending F)) (flights now : List (Option (Pending F))) (v : Pending F) (w place takes more : ℕ) → At queue place v → rest ≡ remove queue place → now ≡ slice_set flights w (Some v) → more ≡ min (takes + 1) (2 ^ 64 - 1)
+      → At (map (flight_of root cs) flights) w None → Takes w place (seen queue flights takes) (seen rest now more)
+  sent queue rest flights now v w place takes more there left set is idle = record {
     item = item_of root cs v;
     idle = idle;
-    at = (omega arith, refl);
-    is = ap (λ (fs : List (Option (Item F))). record (seen rest flights (min (takes + 1) (2 ^ 64 - 1))) { flights = fs }) (map-set (flight_of root cs) flights w (Some v));
+    at = at_map (item_of root cs) queue place v there;
+    is = ap (λ (q : List (Pending F)). seen q now more) left
+        ∙ ap (λ (fs : List (Option (Pending F))). seen (remove queue place) fs more) set
+        ∙ ap (λ (n : ℕ). seen (remove queue place) (slice_set flights w (Some v)) n) is
+        ∙ ap (λ (fs : List (Option (Item F))). record (seen (remove queue place) flights (min (takes + 1) (2 ^ 64 - 1))) { flights = fs }) (map-set (flight_of root cs) flights w (Some v))
+        ∙ ap (λ (q : List (Item F)). record (seen queue flights (min (takes + 1) (2 ^ 64 - 1))) { queue = q; flights = slice_set (map (flight_of root cs) flights) w (Some (item_of root cs v)) }) (map-remove (item_of root cs) queue place);
   }
 
-  pub sent_as : (queue rest : List (Pending F)) (flights now : List (Option (Pending F))) (v : Pending F) (w place takes more : ℕ) → place ≡ 0 → queue ≡ v ∷ rest → now ≡ slice_set flights w (Some v) → more ≡ min (takes + 1) (2 ^ 64 - 1)
-      → At (map (flight_of root cs) flights) w None → Takes w place (seen queue flights takes) (seen rest now more)
-  sent_as queue rest flights now v w place takes more zero first set is idle =
-      subst (λ (p : ℕ). Takes w p (seen queue flights takes) (seen rest now more)) (sym zero)
-      (subst (λ (q : List (Pending F)). Takes w 0 (seen q flights takes) (seen rest now more)) (sym first)
-      (subst (λ (fs : List (Option (Pending F))). Takes w 0 (seen (v ∷ rest) flights takes) (seen rest fs more)) (sym set)
-      (subst (λ (n : ℕ). Takes w 0 (seen (v ∷ rest) flights takes) (seen rest (slice_set flights w (Some v)) n)) (sym is) (sent rest flights v w takes idle))))
-
-  pub first_named : (queue rest : List (Pending F)) (v : Pending F) (place : ℕ) (item : Item F) → place ≡ 0 → queue ≡ v ∷ rest → item ≡ item_of root cs v → At (map (item_of root cs) queue) place item
-  first_named queue rest v place item zero first is =
-      subst (λ (p : ℕ). At (map (item_of root cs) queue) p item) (sym zero)
-      (subst (λ (q : List (Pending F)). At (map (item_of root cs) q) 0 item) (sym first) (omega arith, sym is))
+  pub named_there : (queue : List (Pending F)) (v : Pending F) (place : ℕ) (item : Item F) → At queue place v → item ≡ item_of root cs v → At (map (item_of root cs) queue) place item
+  named_there queue v place item there is = subst (At (map (item_of root cs) queue) place) (sym is) (at_map (item_of root cs) queue place v there)
 
   pub returned : (queue now : List (Pending F)) (flights left : List (Option (Pending F))) (v : Pending F) (w takes : ℕ) → now ≡ queue ++ v ∷ [] → left ≡ slice_set flights w None → At flights w (Some v)
       → GivesBack w (seen queue flights takes) (seen now left takes)
@@ -69,27 +69,33 @@ module _ {F M : Type 0} (root : Context F) (cs : List (Context F)) (callers : Li
         ∙ ap (λ (q : List (Item F)). record (seen queue flights takes) { queue = q; flights = slice_set (map (flight_of root cs) flights) w None }) (map-append (item_of root cs) queue (v ∷ []));
   }
 
-  -- a queue that is empty stays as it is
-  pub still : (queue left : List (Pending F)) (flights : List (Option (Pending F))) (takes : ℕ) → queue ≡ [] → left ≡ [] → seen left flights takes ≡ seen queue flights takes
-  still queue left flights takes was stays = ap (λ (q : List (Pending F)). seen q flights takes) (stays ∙ sym was)
+  -- no work stands at the place of one that waits, or first: none waits
+  none_waits : (queue : List (Pending F)) (place : ℕ) → (place < length (map (item_of root cs) queue)) ⊎ (place ≡ 0) → length queue ≤ place → length queue ≡ 0
+  none_waits queue place (inl within) beyond = omega (arith, within, beyond, length-map queue (item_of root cs))
+  none_waits queue place (inr first) beyond = omega (arith, first, beyond)
+
+  pub still : (queue left : List (Pending F)) (flights : List (Option (Pending F))) (takes : ℕ) → left ≡ queue → seen left flights takes ≡ seen queue flights takes
+  still queue left flights takes stays = ap (λ (q : List (Pending F)). seen q flights takes) stays
 
   same_hands : (flights : List (Option (Pending F))) → in_hand flights ≡ in_hand (map (flight_of root cs) flights)
   same_hands [] = refl
   same_hands (None ∷ fs) = same_hands fs
   same_hands (Some v ∷ fs) = ap suc (same_hands fs)
 
-  pub waits : (queue left : List (Pending F)) (flights : List (Option (Pending F))) (takes n out : ℕ) → queue ≡ [] → left ≡ [] → 1 ≤ n → n ≡ out → out ≡ in_hand flights
+  pub waits : (queue left : List (Pending F)) (flights : List (Option (Pending F))) (place takes n out : ℕ) → (place < length (map (item_of root cs) queue)) ⊎ (place ≡ 0) → length queue ≤ place → left ≡ queue → 1 ≤ n → n ≡ out → out ≡ in_hand flights
       → IsIdle (seen queue flights takes) n × (seen left flights takes ≡ seen queue flights takes)
-  waits queue left flights takes n out was stays one is count = ((ap (map (item_of root cs)) was, one, is ∙ count ∙ same_hands flights), still queue left flights takes was stays)
+  waits queue left flights place takes n out chosen beyond stays one is count =
+      let none = none_waits queue place chosen beyond in
+      ((no_items (map (item_of root cs) queue) (omega (arith, none, length-map queue (item_of root cs))), one, is ∙ count ∙ same_hands flights), still queue left flights takes stays)
 
-  pub over : (queue left : List (Pending F)) (flights : List (Option (Pending F))) (takes out : ℕ) → queue ≡ [] → left ≡ [] → out ≡ 0 → out ≡ in_hand flights
+  pub over : (queue left : List (Pending F)) (flights : List (Option (Pending F))) (place takes out : ℕ) → (place < length (map (item_of root cs) queue)) ⊎ (place ≡ 0) → length queue ≤ place → left ≡ queue → out ≡ 0 → out ≡ in_hand flights
       → IsOver (seen queue flights takes) × (seen left flights takes ≡ seen queue flights takes)
-  over queue left flights takes out was stays zero count = (
+  over queue left flights place takes out chosen beyond stays zero count = (
     λ item pending. elim pending [
-      | inl queued ↦ let none = ap (λ (q : List (Pending F)). length (map (item_of root cs) q)) was in omega (arith, queued.1, none)
+      | inl queued ↦ omega (arith, queued.1, none_waits queue place chosen beyond, length-map queue (item_of root cs))
       | inr flies ↦ none_in_hand (map (flight_of root cs) flights) item (sym (same_hands flights) ∙ sym count ∙ zero) flies
     ],
-    still queue left flights takes was stays,
+    still queue left flights takes stays,
   )
 
 -- a job is what was answered
@@ -104,26 +110,23 @@ module _ {F : Type 0} (cs : List (Context F)) (callers : List (List CallSite)) (
   abbrev Fit : List (Pending F) → List (Option (Pending F)) → Type 0
   Fit queue flights = AreNumbers cs callers exits edges queue flights
 
-  later : (v : Pending F) (rest : List (Pending F)) (u : Pending F) → Contains rest u → Contains (v ∷ rest) u
-  later v rest u has = (suc has.0, omega (arith, has.1), has.2)
-
-  sent_fit_now : (rest : List (Pending F)) (flights : List (Option (Pending F))) (v : Pending F) (w : ℕ) → w < length flights → Fit (v ∷ rest) flights → Fit rest (slice_set flights w (Some v))
-  sent_fit_now rest flights v w below fit = record {
+  sent_fit_now : (queue : List (Pending F)) (flights : List (Option (Pending F))) (v : Pending F) (w place : ℕ) → At queue place v → w < length flights → Fit queue flights → Fit (remove queue place) (slice_set flights w (Some v))
+  sent_fit_now queue flights v w place there below fit = record {
     workers = omega (arith, fit.workers, length-set {A = Option (Pending F)});
     distinct = fit.distinct;
     callers_long = fit.callers_long;
     exits_long = fit.exits_long;
     edges_in = fit.edges_in;
-    queue_in = λ u has. fit.queue_in u (later v rest u has);
+    queue_in = λ u has. fit.queue_in u (removed_was queue place v there u has);
     flights_in = λ u has. elim (at_set flights w has.0 (Some v) (Some u) below (has.1, has.2)) [
-      | inl same ↦ subst (HasNumbersBelow (length cs)) (sym (some_same u v same.1)) (fit.queue_in v (0, omega arith, refl))
+      | inl same ↦ subst (HasNumbersBelow (length cs)) (sym (some_same u v same.1)) (fit.queue_in v (place, there.0, there.1))
       | inr other ↦ fit.flights_in u (has.0, other.1.0, other.1.1)
     ];
     callers_in = fit.callers_in;
   }
 
-  pub sent_fit : (queue rest : List (Pending F)) (flights now : List (Option (Pending F))) (v : Pending F) (w : ℕ) → queue ≡ v ∷ rest → now ≡ slice_set flights w (Some v) → w < length flights → Fit queue flights → Fit rest now
-  sent_fit queue rest flights now v w first set below fit = subst (Fit rest) (sym set) (sent_fit_now rest flights v w below (subst (λ (q : List (Pending F)). Fit q flights) first fit))
+  pub sent_fit : (queue rest : List (Pending F)) (flights now : List (Option (Pending F))) (v : Pending F) (w place : ℕ) → At queue place v → rest ≡ remove queue place → now ≡ slice_set flights w (Some v) → w < length flights → Fit queue flights → Fit rest now
+  sent_fit queue rest flights now v w place there left set below fit = subst (λ (q : List (Pending F)). Fit q now) (sym left) (subst (Fit (remove queue place)) (sym set) (sent_fit_now queue flights v w place there below fit))
 
   returned_fit_now : (queue : List (Pending F)) (flights : List (Option (Pending F))) (v : Pending F) (w : ℕ) → At flights w (Some v) → Fit queue flights → Fit (queue ++ v ∷ []) (slice_set flights w None)
   returned_fit_now queue flights v w flies fit = record {

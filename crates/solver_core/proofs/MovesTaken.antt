@@ -1,7 +1,7 @@
 -- Moves that are taken in one after another: what each of them needs, and what all of them together did.
 use Rattle.std.specs.Prelude.{◌≡◌, ◌<◌, ◌≤◌, ℕ, ◌+◌, List, [], ◌∷◌, ◌++◌, length, take, drop, Contains}
 use Rattle.std.specs.List.{sum_by}
-use Rattle.std.proofs.Common.{arith, sym, ◌∙◌, ap, subst, inl, inr, get_or, take_all}
+use Rattle.std.proofs.Common.{arith, sym, ◌∙◌, ap, subst, inl, inr, refl, get_or, take_all}
 use Rattle.std.proofs.lemmas.List.{take_more, drop_more}
 use Rattle.std.proofs.lemmas.List.Sums.{sum_by_more}
 use Rattle.std.proofs.lemmas.List.Elements.{Contains-push, Contains-append_left, Contains-push_cases}
@@ -29,6 +29,9 @@ next_of {X} xs i x below is = drop_more xs i x below ∙ ap (λ (z : X). z ∷ d
 
 pub there_of : {X : Type 0} (xs : List X) (i : ℕ) (x : X) → i < length xs → x ≡ get_or xs i x → Contains xs x
 there_of xs i x below is = (i, below, sym is)
+
+pub head_of : {X : Type 0} (xs : List X) (i : ℕ) (x : X) → i < length xs → x ≡ get_or xs i x → Contains (drop i xs) x
+head_of {X} xs i x below is = subst (λ (zs : List X). Contains zs x) (sym (next_of xs i x below is)) (0, omega arith, refl)
 
 pub sum_next : {X : Type 0} (f : X → ℕ) (xs : List X) (i : ℕ) (x : X) → i < length xs → x ≡ get_or xs i x → sum_by f (take (i + 1) xs) ≡ sum_by f (take i xs) + f x
 sum_next {X} f xs i x below is = sum_by_more f xs i x below ∙ ap (λ (z : X). sum_by f (take i xs) + f z) (sym is)

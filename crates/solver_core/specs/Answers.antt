@@ -1,11 +1,13 @@
 -- What the answers of a state's calls mean.
-use Rattle.std.specs.Prelude.{◌≡◌, ◌≤◌, ◌<◌, ◌+◌, ℕ, []}
+use Rattle.std.specs.Prelude.{◌≡◌, ◌⊎◌, ◌≤◌, ◌<◌, ◌+◌, ℕ, [], Some, None}
 use Rattle.ifds_model.specs.declared.node.Item.{Item}
 use Rattle.ifds_model.specs.Machine.{Machine}
 use Rattle.ifds_model.specs.Runs.{HasCount}
-use Rattle.ifds_model.specs.State.{View, context_of, MovesOf, IsHeld, IsPending}
-use Rattle.ifds_model.specs.Events.{LeadsTo}
+use Rattle.ifds_model.specs.State.{View, At, context_of, MovesOf, IsHeld, IsPending}
+use Rattle.ifds_model.specs.Events.{LeadsTo, Commits, GivesBack}
 use Rattle.solver_core.specs.Hands.{in_hand}
+use Rattle.solver_core.specs.declared.answer.Committed.{Committed}
+use Rattle.solver_core.specs.declared.answer.Committed.TheVariants.{Done, GoneBack}
 use Rattle.solver_core.specs.declared.answer.CommitStop.{CommitStop}
 use Rattle.solver_core.specs.declared.answer.CommitStop.TheVariants.{EdgeLimit, OutOfMemory}
 
@@ -17,6 +19,12 @@ module _ {F M : Type 0} where
   -- nothing waits, and so many items are in hand
   abbrev pub IsIdle : View F M → ℕ → Type 0
   IsIdle s n = (s.queue ≡ []) × (1 ≤ n) × (n ≡ in_hand s.flights)
+
+  -- what became of an item's outcome: the worker had the item in hand, and its moves were taken in; or it hadn't, and what
+  -- it had in hand went back, where it had anything
+  abbrev pub IsCommitted : Machine F M → ℕ → Item F → View F M → View F M → Committed → Type 0
+  IsCommitted P worker item old new Done = At old.flights worker (Some item) × Commits P worker old new
+  IsCommitted P worker item old new GoneBack = (At old.flights worker (Some item) → ⊥) × (GivesBack worker old new ⊎ (At old.flights worker None × (new ≡ old)))
 
   -- the edges that the item's moves lead to and that aren't held would raise found above the limit
   abbrev pub PassesLimit : Machine F M → Item F → View F M → Type 0

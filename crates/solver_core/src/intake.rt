@@ -3,11 +3,12 @@
 ghost use Rattle.std.specs.Prelude.{◌≡◌, ◌↔◌, ◌≤◌, ◌<◌, ◌+◌, ◌∷◌, [], ℕ, length, slice_index, Contains, vec_len, vec_capacity};
 ghost use Rattle.std.specs.List.{sum_by};
 ghost use Rattle.std.specs.VecDeque.{deque_len, deque_capacity};
-ghost use Rattle.entry_tables.specs.Tables.{exits_of};
+ghost use Rattle.entry_tables.specs.Tables.{call_site, exits_of};
 ghost use Rattle.ifds_model.specs.declared.node.Node.{Node};
 ghost use Rattle.ifds_model.specs.declared.node.Move.TheVariants.{Call};
 ghost use Rattle.ifds_model.specs.State.{At};
-ghost use Rattle.solver_core.specs.Room.{Uses, HasStarts, HasRoomFor, IsOf, edges_of, works_of};
+ghost use Rattle.clean_base.specs.declared.ids.StmtId.{StmtId};
+ghost use Rattle.solver_core.specs.Room.{Uses, HasPlaceFor, HasStarts, HasRoomFor, IsOf, StandsAt, calls_of, edges_of, leaves_of, works_of};
 ghost use Rattle.solver_core.specs.Seen.{AreFit, TakesInParts};
 
 use crate::moves::{take_exit, take_go, take_known, take_mark, take_unknown};
@@ -52,7 +53,7 @@ fn take_move<P: Problem>(
     requires room { HasRoomFor context parts.old (ready.now ∷ []) }
     ensures fit { AreFit parts.new }
     ensures taken { TakesInParts (P.machine problem.now) context (λ m. m ≡ ready.now.step) parts.old parts.new }
-    ensures uses { Uses 1 1 parts.old.tables parts.new.tables }
+    ensures uses { (at : StmtId) → StandsAt at ready.now.step → Uses (call_site context at) (calls_of ready.now) (calls_of ready.now) (leaves_of ready.now) parts.old.tables parts.new.tables }
     ensures flights { parts.new.flights ≡ parts.old.flights }
     ensures mark_room { vec_len parts.new.marks + vec_capacity parts.old.marks ≤ vec_len parts.old.marks + vec_capacity parts.new.marks + 1 }
     ensures held { length parts.new.edges.edges ≤ length parts.old.edges.edges + edges_of ready.now }
@@ -85,13 +86,13 @@ fn take_call<P: Problem>(
     requires starts { (Contains parts.old.tables.contexts callee → ⊥) → (n : Node) → Contains starts.now n ↔ (P.machine problem.now).start callee n }
     requires contexts { 0 < parts.old.tables.spare_contexts }
     requires first { 0 < parts.old.tables.first_callers }
-    requires callers { (k : ℕ) → At parts.old.tables.contexts k callee → 0 < slice_index parts.old.tables.spare_callers k }
+    requires callers { (k : ℕ) → At parts.old.tables.contexts k callee → HasPlaceFor (call_site context at) parts.old.tables k }
     requires edges { length starts.now ≤ parts.old.edges.spare }
     requires queue { deque_len parts.old.queue + length starts.now ≤ deque_capacity parts.old.queue }
     requires joins { (k : ℕ) → At parts.old.tables.contexts k callee → deque_len parts.old.queue + length (exits_of parts.old.tables k) ≤ deque_capacity parts.old.queue }
     ensures fit { AreFit parts.new }
     ensures taken { TakesInParts (P.machine problem.now) context (λ m. m ≡ Call at callee) parts.old parts.new }
-    ensures uses { Uses 1 1 parts.old.tables parts.new.tables }
+    ensures uses { Uses (call_site context at) 1 1 0 parts.old.tables parts.new.tables }
     ensures flights { parts.new.flights ≡ parts.old.flights }
     ensures marks { parts.new.marks ≡ parts.old.marks }
     ensures held { length parts.new.edges.edges ≤ length parts.old.edges.edges + length starts.now }

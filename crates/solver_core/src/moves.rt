@@ -5,10 +5,11 @@ ghost use Rattle.std.specs.VecDeque.{deque_len, deque_capacity};
 ghost use Rattle.ifds_model.specs.declared.node.Node.{Node};
 ghost use Rattle.ifds_model.specs.declared.node.Move.TheVariants.{Go, Call, Exit, Mark};
 ghost use Rattle.ifds_model.specs.State.{IsDistinct};
-ghost use Rattle.entry_tables.specs.Tables.{callers_of, exits_of};
+ghost use Rattle.entry_tables.specs.Tables.{call_site, callers_of, exits_of};
+ghost use Rattle.entry_tables.specs.declared.tables.CallSite.{CallSite};
 ghost use Rattle.solver_core.specs.Joins.{exit_join, call_join};
 ghost use Rattle.solver_core.specs.Numbers.{context_at};
-ghost use Rattle.solver_core.specs.Room.{Uses};
+ghost use Rattle.solver_core.specs.Room.{HasPlaceFor, Uses};
 ghost use Rattle.solver_core.specs.Seen.{AreFit, TakesInParts, OpensInParts, GoesTo};
 
 use crate::parts::Parts;
@@ -117,7 +118,7 @@ pub fn take_exit<P: Problem>(
     requires queue { deque_len parts.old.queue + length (callers_of parts.old.tables context) ≤ deque_capacity parts.old.queue }
     ensures fit { AreFit parts.new }
     ensures taken { TakesInParts (P.machine problem.now) context (λ m. m ≡ Exit exit) parts.old parts.new }
-    ensures uses { Uses 0 1 parts.old.tables parts.new.tables }
+    ensures uses { (site : CallSite) → Uses site 0 0 1 parts.old.tables parts.new.tables }
     ensures flights { parts.new.flights ≡ parts.old.flights }
     ensures edges { parts.new.edges ≡ parts.old.edges }
     ensures marks { parts.new.marks ≡ parts.old.marks }
@@ -169,11 +170,11 @@ pub fn take_known<P: Problem>(
     requires fit { AreFit parts.old }
     requires known { context < length parts.old.tables.contexts }
     requires there { callee < length parts.old.tables.contexts }
-    requires callers { 0 < slice_index parts.old.tables.spare_callers callee }
+    requires callers { HasPlaceFor (call_site context at) parts.old.tables callee }
     requires queue { deque_len parts.old.queue + length (exits_of parts.old.tables callee) ≤ deque_capacity parts.old.queue }
     ensures fit { AreFit parts.new }
     ensures taken { TakesInParts (P.machine problem.now) context (λ m. m ≡ Call at (context_at (P.machine problem.now).root parts.old.tables.contexts callee)) parts.old parts.new }
-    ensures uses { Uses 0 1 parts.old.tables parts.new.tables }
+    ensures uses { Uses (call_site context at) 0 1 0 parts.old.tables parts.new.tables }
     ensures flights { parts.new.flights ≡ parts.old.flights }
     ensures edges { parts.new.edges ≡ parts.old.edges }
     ensures marks { parts.new.marks ≡ parts.old.marks }
@@ -200,7 +201,7 @@ pub fn open_context<P: Problem>(
     ensures exits { parts.new.tables.exits ≡ parts.old.tables.exits ++ [] ∷ [] }
     ensures opened { OpensInParts (P.machine problem.now) context parts.old parts.new }
     ensures ready { parts.old.tables.first_callers ≤ slice_index parts.new.tables.spare_callers result }
-    ensures uses { Uses 1 0 parts.old.tables parts.new.tables }
+    ensures uses { (site : CallSite) → Uses site 1 0 0 parts.old.tables parts.new.tables }
     ensures rest { (parts.new.edges ≡ parts.old.edges) × (parts.new.queue ≡ parts.old.queue) × (parts.new.flights ≡ parts.old.flights) × (parts.new.marks ≡ parts.old.marks) }
 {
     parts.tables.open_context(context)
@@ -252,7 +253,7 @@ pub fn take_unknown<P: Problem>(
     requires queue { deque_len parts.old.queue + length starts.now ≤ deque_capacity parts.old.queue }
     ensures fit { AreFit parts.new }
     ensures taken { TakesInParts (P.machine problem.now) context (λ m. m ≡ Call at callee) parts.old parts.new }
-    ensures uses { Uses 1 1 parts.old.tables parts.new.tables }
+    ensures uses { Uses (call_site context at) 1 1 0 parts.old.tables parts.new.tables }
     ensures flights { parts.new.flights ≡ parts.old.flights }
     ensures marks { parts.new.marks ≡ parts.old.marks }
     ensures held { length parts.new.edges.edges ≤ length parts.old.edges.edges + length starts.now }

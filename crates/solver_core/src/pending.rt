@@ -1,6 +1,6 @@
 // What is still to be done, by the numbers of contexts: the queue of works, and the workers' hands. The state's parts
 // stand above.
-ghost use Rattle.std.specs.Prelude.{◌≡◌, ◌≤◌, ◌<◌, ◌+◌, ◌^◌, ◌++◌, ◌∷◌, [], List, length, slice_set, IfSome, IfNone, Some, None};
+ghost use Rattle.std.specs.Prelude.{◌≡◌, ◌≤◌, ◌<◌, ◌+◌, ◌^◌, ◌++◌, ◌∷◌, [], List, length, remove, slice_set, IfSome, IfNone, OnSome, Some, None};
 ghost use Rattle.std.specs.VecDeque.{deque_len, deque_capacity};
 ghost use Rattle.ifds_model.specs.declared.node.Context.{Context};
 ghost use Rattle.ifds_model.specs.Events.{commits_of};
@@ -28,16 +28,17 @@ pub enum Pending<F> {
     },
 }
 
-/// Takes the first work out of the queue.
-pub fn next_work<F: Copy>(queue: &mut VecDeque<Pending<F>>) -> Option<Pending<F>>
-    ensures first { IfSome result (λ v. queue.old.items ≡ v ∷ queue.new.items) }
+/// Takes the work at a place of the queue out of it, counted from the front.
+pub fn work_at<F: Copy>(queue: &mut VecDeque<Pending<F>>, place: u64) -> Option<Pending<F>>
+    ensures there { IfSome result (λ v. At queue.old.items place v) }
+    ensures left { OnSome result (queue.new.items ≡ remove queue.old.items place) }
     ensures less { IfSome result (λ v. deque_len queue.new + 1 ≡ deque_len queue.old) }
-    ensures was { IfNone result (queue.old.items ≡ []) }
-    ensures stays { IfNone result (queue.new.items ≡ []) }
+    ensures beyond { IfNone result (length queue.old.items ≤ place) }
+    ensures stays { IfNone result (queue.new.items ≡ queue.old.items) }
     ensures no_less { IfNone result (deque_len queue.new ≡ deque_len queue.old) }
     ensures room { deque_capacity queue.new ≡ deque_capacity queue.old }
 {
-    queue.pop_front()
+    queue.remove(place as usize)
 }
 
 /// Queues a work at the end.

@@ -5,13 +5,13 @@ ghost use Rattle.std.specs.List.{sum_by};
 ghost use Rattle.std.specs.VecDeque.{deque_len, deque_capacity};
 ghost use Rattle.solver_core.specs.Gathered.{KeepsWithin, IsPassed};
 ghost use Rattle.solver_core.specs.Hands.{in_hand};
-ghost use Rattle.solver_core.specs.Room.{HasStarts, HasRoomFor, IsSame, edges_of, works_of};
+ghost use Rattle.solver_core.specs.Room.{HasStarts, HasRoomFor, IsSame, StandTogether, edges_of, works_of};
 ghost use Rattle.solver_core.specs.Seen.{AreFit, HasRoom};
 
 use crate::answer::CommitStop;
 use crate::limit::keep_limit;
 use crate::parts::Parts;
-use crate::ready::{Ready, ready_moves};
+use crate::ready::{Ready, kinds_of, ready_moves};
 use crate::room::{edge_count, make_room};
 use ifds_model::{Move, Problem};
 use std::alloc::Global;
@@ -28,6 +28,7 @@ pub fn prepare<P: Problem>(
     requires fit { AreFit parts.old }
     requires hands { HasRoom parts.old }
     requires known { context < length parts.old.tables.contexts }
+    requires stand { StandTogether moves.now }
     requires limit { max_edges ≤ 2 ^ 64 - 2 }
     ensures same { IsSame parts.old parts.new }
     ensures hands { HasRoom parts.new }
@@ -38,14 +39,15 @@ pub fn prepare<P: Problem>(
     ensures within { IfOk result (λ v. KeepsWithin (P.machine problem.now) parts.old context moves.now (sum_by edges_of v.items) max_edges) }
     ensures stopped { IfErr result (λ e. IsPassed (P.machine problem.now) parts.old context moves.now max_edges e) }
 {
-    let Ok(readies) = ready_moves(alloc, problem, &parts.tables, context, moves) else {
+    let kinds = kinds_of(moves);
+    let Ok(readies) = ready_moves(alloc, problem, &parts.tables, context, moves, kinds) else {
         return Err(CommitStop::OutOfMemory);
     };
     let Ok(most) = edge_count(readies.as_slice()) else {
         return Err(CommitStop::OutOfMemory);
     };
     keep_limit(alloc, problem, parts, context, moves, most, max_edges)?;
-    let Ok(()) = make_room(parts, context, readies.as_slice()) else {
+    let Ok(()) = make_room(parts, context, readies.as_slice(), kinds) else {
         return Err(CommitStop::OutOfMemory);
     };
     Ok(readies)

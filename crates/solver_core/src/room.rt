@@ -3,30 +3,36 @@
 ghost use Rattle.std.specs.Prelude.{◌≡◌, ◌≤◌, ◌<◌, ◌+◌, length, slice_index, Contains, IfOk, OnOk};
 ghost use Rattle.std.specs.List.{sum_by};
 ghost use Rattle.std.specs.VecDeque.{deque_len, deque_capacity};
+ghost use Rattle.clean_base.specs.declared.ids.StmtId.{StmtId};
 ghost use Rattle.entry_tables.specs.Tables.{IsUnchanged, KeepsAllRoom};
 ghost use Rattle.ifds_model.specs.State.{IsDistinct};
 ghost use Rattle.solver_core.specs.Hands.{in_hand};
-ghost use Rattle.solver_core.specs.Room.{JoinsWithin, HasCallerRoom, HasRoomFor, IsSame, edges_of, works_of};
+ghost use Rattle.solver_core.specs.Room.{JoinsWithin, HasCallerRoom, HasRoomFor, IsSame, StandsAt, calls_of, edges_of, leaves_of, works_of};
 ghost use Rattle.solver_core.specs.Seen.{AreFit, HasRoom};
 
 use crate::parts::Parts;
 use crate::pending::out_of;
-use crate::ready::{Ready, plus};
+use crate::ready::{Kinds, Ready, plus};
 use clean_base::Plain;
 use entry_tables::EntryTables;
 use ifds_model::Move;
 use std::alloc::AllocError;
 
-/// Makes room for moves of a context, beside what the queue needs for all that is in hand.
+/// Makes room for moves of a context, which have so many calls and exits, beside what the queue needs for all that is in
+/// hand.
 pub fn make_room<F: Plain, M: Plain>(
     parts: &mut Parts<F, M>,
     context: u64,
     readies: &[Ready<F, M>],
+    kinds: Kinds,
 ) -> Result<(), AllocError>
     requires fit { AreFit parts.old }
     requires hands { HasRoom parts.old }
     requires known { context < length parts.old.tables.contexts }
-    requires joins { (r : _) → Contains readies.now r → JoinsWithin parts.old.tables context (length readies.now) r.joins r.step }
+    requires joins { (r : _) → Contains readies.now r → JoinsWithin parts.old.tables context kinds.calls kinds.exits r.joins r.step }
+    requires calls { kinds.calls ≡ sum_by calls_of readies.now }
+    requires exits { kinds.exits ≡ sum_by leaves_of readies.now }
+    requires stand { (at : StmtId) × ((r : _) → Contains readies.now r → StandsAt at r.step) }
     ensures same { IsSame parts.old parts.new }
     ensures hands { HasRoom parts.new }
     ensures room { OnOk result (HasRoomFor context parts.new readies.now) }
@@ -38,7 +44,7 @@ pub fn make_room<F: Plain, M: Plain>(
     parts.queue.reserve(works as usize)?;
     parts.edges.reserve(edges as usize)?;
     parts.marks.reserve(readies.len())?;
-    make_entry_room(&mut parts.tables, context, readies)
+    make_entry_room(&mut parts.tables, context, readies, kinds)
 }
 
 /// The most edges that the moves hold.
@@ -75,45 +81,49 @@ fn works_in<F: Plain, M: Plain>(ready: &Ready<F, M>) -> Result<u64, AllocError>
     plus(edges_in(ready)?, ready.joins)
 }
 
-// Makes room for contexts, callers and exits that the moves add.
+// Makes room for contexts, callers and exits that the moves add. All calls stand at one statement, so each callee gets one
+// caller at most.
 fn make_entry_room<F: Plain, M: Plain>(
     tables: &mut EntryTables<F>,
     context: u64,
     readies: &[Ready<F, M>],
+    kinds: Kinds,
 ) -> Result<(), AllocError>
     requires known { context < length tables.old.contexts }
     requires distinct { IsDistinct tables.old.contexts }
     ensures same { IsUnchanged tables.old tables.new }
-    ensures contexts { OnOk result (length readies.now ≤ tables.new.spare_contexts) }
-    ensures first { OnOk result (length readies.now ≤ tables.new.first_callers) }
-    ensures exits { OnOk result (length readies.now ≤ slice_index tables.new.spare_exits context) }
-    ensures callers { OnOk result ((r : _) → Contains readies.now r → HasCallerRoom tables.new (length readies.now) r.step) }
+    ensures contexts { OnOk result (kinds.calls ≤ tables.new.spare_contexts) }
+    ensures first { OnOk result (0 < tables.new.first_callers) }
+    ensures exits { OnOk result (kinds.exits ≤ slice_index tables.new.spare_exits context) }
+    ensures callers { OnOk result ((r : _) → Contains readies.now r → HasCallerRoom tables.new context r.step) }
 {
-    let count = readies.len() as u64;
-    tables.reserve_contexts(count, count)?;
-    tables.reserve_entries(context, 0, count)?;
+    tables.reserve_entries(context, 0, kinds.exits)?;
     for ready in readies {
-        make_caller_room(tables, ready.step, count)?;
+        make_caller_room(tables, context, ready.step)?;
     }
-    Ok(())
+    tables.reserve_contexts(kinds.calls, 1)
 }
 
-// Makes room for so many callers of the context that a move calls, where it is known.
+// Makes room for a caller of the context that a move calls, where it is known.
 fn make_caller_room<F: Plain, M: Plain>(
     tables: &mut EntryTables<F>,
+    context: u64,
     step: Move<F, M>,
-    count: u64,
 ) -> Result<(), AllocError>
     requires distinct { IsDistinct tables.old.contexts }
     ensures same { IsUnchanged tables.old tables.new }
     ensures kept { KeepsAllRoom tables.old tables.new }
-    ensures room { OnOk result (HasCallerRoom tables.new count step) }
+    ensures room { OnOk result (HasCallerRoom tables.new context step) }
 {
-    let Move::Call { context, .. } = step else {
+    let Move::Call {
+        context: callee,
+        ..
+    } = step
+    else {
         return Ok(());
     };
-    let Some(number) = tables.known(&context) else {
+    let Some(number) = tables.known(&callee) else {
         return Ok(());
     };
-    tables.reserve_entries(number, count, 0)
+    tables.reserve_entries(number, 1, 0)
 }

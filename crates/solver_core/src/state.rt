@@ -1,5 +1,5 @@
 // The solver's state: the events that it goes through, and what it answers once nothing is left to do.
-ghost use Rattle.std.specs.Prelude.{◌≡◌, ◌↔◌, ◌<◌, ◌≤◌, ◌+◌, ◌-◌, ◌^◌, ℕ, length, IsTrue, false, IfOk, OnOk, IfErr, Some, None};
+ghost use Rattle.std.specs.Prelude.{◌≡◌, ◌≢◌, ◌⊎◌, ◌↔◌, ◌<◌, ◌≤◌, ◌+◌, ◌-◌, ◌^◌, ℕ, length, IsTrue, false, IfOk, OnOk, IfErr, Some, None};
 ghost use Rattle.std.specs.List.Sorted.{IsStrictlySortedBy};
 ghost use Rattle.ifds_model.specs.Laws.{IsLawful};
 ghost use Rattle.ifds_model.specs.Runs.{IsEdge, IsContext, IsLeak, HasCount, Lists};
@@ -7,8 +7,7 @@ ghost use Rattle.ifds_model.specs.Sound.{IsFound, IsDone};
 ghost use Rattle.ifds_model.specs.State.{At};
 ghost use Rattle.ifds_model.specs.Events.{IsOpened, Takes, Commits, GivesBack};
 ghost use Rattle.solver_core.specs.Seen.{IsRight};
-ghost use Rattle.solver_core.specs.Answers.{IsOver, IsIdle, IsStopped};
-ghost use Rattle.solver_core.specs.declared.answer.Committed.TheVariants.{Done};
+ghost use Rattle.solver_core.specs.Answers.{IsOver, IsIdle, IsCommitted, IsStopped};
 ghost use Rattle.solver_core.specs.declared.answer.Taken.TheVariants.{Took, Idle, Finished};
 
 use crate::answer::{Answer, CommitStop, Committed, Job, Taken};
@@ -16,10 +15,11 @@ use crate::intake::take_moves;
 use crate::marks::in_order;
 use crate::parts::{Parts, first_parts, first_start, named};
 use crate::pending::{
-    commit_count, hand_back, hand_of, hand_out, next_work, out_of, place_of, queue_work,
+    commit_count, hand_back, hand_of, hand_out, out_of, place_of, queue_work, work_at,
 };
 use crate::prepare::prepare;
-use ifds_model::{Outcome, Problem};
+use clean_base::Plain;
+use ifds_model::{Item, Outcome, Problem};
 use std::alloc::{AllocError, Global};
 use std::marker::Model;
 
@@ -58,7 +58,7 @@ impl<'a, P: Problem> State<'a, P> {
     ) -> Result<State<'a, P>, AllocError>
         requires period { (1 ≤ period) × (period ≤ 1000000) }
         requires limit { (1 ≤ max_edges) × (max_edges ≤ 2 ^ 64 - 2) }
-        requires workers { workers ≡ 1 }
+        requires workers { (1 ≤ workers) × (workers ≤ 64) }
         ensures problem { IfOk result (λ s. s.problem ≡ problem.now) }
         ensures opened { IfOk result (λ s. IsOpened (P.machine problem.now) period max_edges workers s.view) }
         ensures sound { IfOk result (λ s. IsRight (P.machine problem.now) (P.reaches problem.now) s.view) }
@@ -100,11 +100,30 @@ impl<'a, P: Problem> State<'a, P> {
         self.parts.flights[w as usize].is_some()
     }
 
+    /// The item that a worker has in hand, if any.
+    pub fn flight(&self, w: u32) -> Option<Item<P::Fact>>
+        requires { w < length self.now.view.flights }
+        ensures flies { At self.now.view.flights w result }
+        ensures sound { IsRight (P.machine self.now.problem) (P.reaches self.now.problem) self.now.view }
+    {
+        match hand_of(self.parts.flights.as_slice(), w) {
+            Some(work) => Some(named(&self.parts.tables, work)),
+            None => None,
+        }
+    }
+
     /// How many items wait.
     pub fn queued(&self) -> u64
         ensures { result ≡ length self.now.view.queue }
     {
         self.parts.queue.len() as u64
+    }
+
+    /// How many edges are held.
+    pub fn held(&self) -> u64
+        ensures { result ≡ length self.now.view.held }
+    {
+        self.parts.edges.len()
     }
 
     /// How many edges were committed: those that are held or dropped with nothing left to do.
@@ -124,17 +143,17 @@ impl<'a, P: Problem> State<'a, P> {
         self.parts.edges.len()
     }
 
-    /// A worker takes the first item, where one waits.
+    /// A worker takes the item at a place of the queue, counted from the front, or the first, where one waits.
     pub fn take(&mut self, w: u32, place: u64) -> Taken<P>
         requires idle { At self.old.view.flights w None }
-        requires first { place ≡ 0 }
+        requires place { (place < length self.old.view.queue) ⊎ (place ≡ 0) }
         ensures problem { self.new.problem ≡ self.old.problem }
         ensures took { (job : _) → result ≡ Took job → Takes w place self.old.view self.new.view × At self.old.view.queue place job.item × (job.take ≡ self.new.view.takes) }
         ensures idle { (n : ℕ) → result ≡ Idle n → IsIdle self.old.view n × (self.new.view ≡ self.old.view) }
         ensures finished { result ≡ Finished → IsOver self.old.view × (self.new.view ≡ self.old.view) }
         ensures sound { IsRight (P.machine self.new.problem) (P.reaches self.new.problem) self.new.view }
     {
-        let Some(work) = next_work(&mut self.parts.queue) else {
+        let Some(work) = work_at(&mut self.parts.queue, place) else {
             return waiting(out_of(self.parts.flights.as_slice()));
         };
         hand_out(&mut self.parts.flights, w, work);
@@ -145,12 +164,34 @@ impl<'a, P: Problem> State<'a, P> {
         })
     }
 
-    /// Takes in the moves of the item that a worker has in hand.
+    /// Takes in the moves of the item that a worker has in hand. Where the outcome is of another item, the worker's goes
+    /// back to the queue instead.
     pub fn commit(&mut self, w: u32, outcome: Outcome<P>) -> Result<Committed, CommitStop>
+        requires below { w < length self.old.view.flights }
+        requires problem { outcome.problem ≡ self.old.problem }
+        ensures problem { self.new.problem ≡ self.old.problem }
+        ensures committed { IfOk result (λ c. IsCommitted (P.machine self.old.problem) w outcome.entry.item self.old.view self.new.view c) }
+        ensures flies { IfErr result (λ e. At self.old.view.flights w (Some outcome.entry.item)) }
+        ensures stopped { IfErr result (λ e. IsStopped (P.machine self.old.problem) outcome.entry.item self.old.view e) }
+        ensures same { IfErr result (λ e. self.new.view ≡ self.old.view) }
+        ensures sound { IsRight (P.machine self.new.problem) (P.reaches self.new.problem) self.new.view }
+        ensures within { self.new.view.commits ≤ self.new.view.max_edges }
+    {
+        if holds(self.flight(w), outcome.item()) {
+            self.take_in(w, outcome)?;
+            return Ok(Committed::Done);
+        }
+        if self.has_flight(w) {
+            self.give_back(w);
+        }
+        Ok(Committed::GoneBack)
+    }
+
+    // Takes in the moves of the item that a worker has in hand.
+    fn take_in(&mut self, w: u32, outcome: Outcome<P>) -> Result<(), CommitStop>
         requires flies { At self.old.view.flights w (Some outcome.item) }
         requires problem { outcome.problem ≡ self.old.problem }
         ensures problem { self.new.problem ≡ self.old.problem }
-        ensures done { IfOk result (λ c. c ≡ Done) }
         ensures event { OnOk result (Commits (P.machine self.old.problem) w self.old.view self.new.view) }
         ensures stopped { IfErr result (λ e. IsStopped (P.machine self.old.problem) outcome.entry.item self.old.view e) }
         ensures same { IfErr result (λ e. self.new.view ≡ self.old.view) }
@@ -160,6 +201,7 @@ impl<'a, P: Problem> State<'a, P> {
         let Some(work) = hand_of(self.parts.flights.as_slice(), w) else {
             unreachable!();
         };
+        lawful(self.problem);
         let alloc = *self.parts.marks.allocator();
         let context = place_of(work);
         let readies = prepare(
@@ -174,7 +216,7 @@ impl<'a, P: Problem> State<'a, P> {
         take_moves(self.problem, &mut self.parts, context, readies.as_slice());
         self.commits += commit_count(work);
         self.lag = self.lag.saturating_add(1).min(self.period);
-        Ok(Committed::Done)
+        Ok(())
     }
 
     /// A worker's item goes to the end of the queue.
@@ -220,6 +262,17 @@ impl<'a, P: Problem> State<'a, P> {
 fn lawful<P: Problem>(_problem: &P)
     ensures { IsLawful (P.machine _problem.now) (P.method_of _problem.now) (P.reaches _problem.now) }
 {}
+
+// Whether a hand holds this item.
+fn holds<T: Plain>(hand: Option<T>, item: T) -> bool
+    ensures yes { IsTrue result → hand ≡ Some item }
+    ensures no { result ≡ false → hand ≢ Some item }
+{
+    match hand {
+        Some(other) => other == item,
+        None => false,
+    }
+}
 
 // What is left to do where nothing waits.
 fn waiting<P: Problem>(in_flight: u32) -> Taken<P>

@@ -2,7 +2,7 @@ use Rattle.std.proofs.Common.{arith, refl, subst, ◌∙◌, ◌+◌, drop}
 use Rattle.solver_core.specs.Numbers.{context_at}
 use Rattle.solver_core.specs.Room.{HasRoomFor, edges_of, works_of}
 use Rattle.solver_core.proofs.RoomLeft.{room_first, room_rest, later_starts}
-use Rattle.solver_core.proofs.MovesTaken.{at_number_of, number_at, next_of, there_of, sum_next, begun, one_taken, all_taken}
+use Rattle.solver_core.proofs.MovesTaken.{at_number_of, number_at, head_of, next_of, there_of, sum_next, begun, one_taken, all_taken}
 use Rattle.solver_core.proofs.intake.take_moves.Goals as goal
 
 pub loop-ready-init : goal.loop-ready-init
@@ -45,9 +45,9 @@ loop-ready-preserved g c =
     let e = context_at machine.root old.tables.contexts c.args.context in
     record {
       fit = did.fit;
-      known = did.uses.at c.args.context e inv.known;
+      known = (did.uses inv.room.at (inv.room.stand r (head_of rs i r (omega arith) c.ready-item.is))).at c.args.context e inv.known;
       taken = λ commits lag takes period max_edges. one_taken machine e rs i r _ _ _ (context_at machine.root mid.tables.contexts c.args.context) (number_at machine.root mid.tables.contexts c.args.context e inv.known) (omega arith) c.ready-item.is (inv.taken commits lag takes period max_edges) (did.taken commits lag takes period max_edges);
-      starts = λ q has. later_starts machine mid.tables new.tables q.starts.items q.step did.uses (inv.starts q has);
+      starts = λ q has. later_starts machine _ _ _ _ mid.tables new.tables q.starts.items q.step (did.uses inv.room.at (inv.room.stand r (head_of rs i r (omega arith) c.ready-item.is))) (inv.starts q has);
       room = room_rest c.args.context mid r (drop (i + 1) rs) (subst (λ zs. HasRoomFor c.args.context mid zs) (next_of rs i r (omega arith) c.ready-item.is) inv.room) new did.uses did.mark_room did.edge_room did.queue_len did.queue_room;
       flights = did.flights ∙ inv.flights;
       held = omega (arith, inv.held, did.held, sum_next edges_of rs i r (omega arith) c.ready-item.is);

@@ -15,4 +15,4 @@ returns-clause-opened g c = λ commits lag takes period max_edges.
 pub returns-clause-uses : goal.returns-clause-uses
 returns-clause-uses g c =
     let did = c.open_context.ensures in
-    uses_context c.args.parts.now.tables c.open_context.new.self c.args.context c.open_context.result c.requires.unknown c.requires.fit.exits_long did.number did.contexts did.callers did.exits did.spare did.first did.ready did.spare_callers did.spare_exits
+    λ site. uses_context c.args.parts.now.tables c.open_context.new.self site c.args.context c.open_context.result c.requires.unknown c.requires.fit.exits_long did.number did.contexts did.callers did.exits did.spare did.first did.ready did.spare_callers did.spare_exits

@@ -19,7 +19,7 @@ returns-else-add_exit-clause-taken g c = λ commits lag takes period max_edges.
     exit_was_as (g.P.Problem.machine c.args.problem.now) parts.tables.contexts parts.edges.edges parts.flights.items c.args.context parts.tables.callers parts.tables.exits parts.queue.items c.requires.fit c.requires.known c.add_exit.new.self.contexts c.add_exit.new.self.callers c.add_exit.ensures.contexts c.add_exit.ensures.callers c.args.exit c.add_exit.new.self.exits (c.if-add_exit.ensures.was refl) (c.if-add_exit.ensures.same refl) parts.marks.items commits lag takes period max_edges
 
 pub returns-then-add_exit-clause-uses : goal.returns-then-add_exit-clause-uses
-returns-then-add_exit-clause-uses g c = uses_exit c.args.parts.now.tables c.add_exit.new.self c.add_exit.ensures.contexts c.add_exit.ensures.spare c.add_exit.ensures.first c.args.context c.args.exit (c.if-add_exit.ensures.added refl) c.add_exit.ensures.callers c.add_exit.ensures.spare_exits c.add_exit.ensures.spare_callers
+returns-then-add_exit-clause-uses g c = λ site. uses_exit c.args.parts.now.tables c.add_exit.new.self c.add_exit.ensures.contexts c.add_exit.ensures.spare c.add_exit.ensures.first site c.args.context c.args.exit (c.if-add_exit.ensures.added refl) c.add_exit.ensures.callers c.add_exit.ensures.spare_exits c.add_exit.ensures.spare_callers
 
 pub returns-else-add_exit-clause-uses : goal.returns-else-add_exit-clause-uses
-returns-else-add_exit-clause-uses g c = uses_no_exit c.args.parts.now.tables c.add_exit.new.self c.add_exit.ensures.contexts c.add_exit.ensures.spare c.add_exit.ensures.first c.args.context (c.if-add_exit.ensures.same refl) c.add_exit.ensures.callers c.add_exit.ensures.spare_exits c.add_exit.ensures.spare_callers
+returns-else-add_exit-clause-uses g c = λ site. uses_no_exit c.args.parts.now.tables c.add_exit.new.self c.add_exit.ensures.contexts c.add_exit.ensures.spare c.add_exit.ensures.first site c.args.context (c.if-add_exit.ensures.same refl) c.add_exit.ensures.callers c.add_exit.ensures.spare_exits c.add_exit.ensures.spare_callers

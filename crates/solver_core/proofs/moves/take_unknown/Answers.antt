@@ -1,5 +1,5 @@
-use Rattle.std.proofs.Common.{◌≡◌, ◌∷◌, ◌++◌, [], ℕ, List, ap, ◌∙◌}
-use Rattle.entry_tables.specs.Tables.{Tables}
+use Rattle.std.proofs.Common.{arith, ◌≡◌, ◌∷◌, ◌++◌, [], ℕ, List, ap, inr, slice_index, ◌∙◌}
+use Rattle.entry_tables.specs.Tables.{Tables, call_site}
 use Rattle.ifds_model.specs.declared.node.Context.{Context}
 use Rattle.solver_core.specs.Numbers.{context_at}
 use Rattle.solver_core.proofs.Unknown.{context_new, context_kept, unknown_taken, not_known}
@@ -30,4 +30,8 @@ returns-clause-uses g c =
     let opened = c.open_context-number.new.parts.tables in
     let started = c.take_starts.new.parts.tables in
     let new = c.take_known.new.parts.tables in
-    uses_both old started new 1 0 0 1 (uses_both old opened started 1 0 0 0 c.open_context-number.ensures.uses (uses_none opened started c.take_starts.ensures.tables)) c.take_known.ensures.uses
+    let site = call_site c.args.context c.args.at in
+    uses_both site old started new 1 0 0 0 1 0 (uses_both site old opened started 1 0 0 0 0 0 (c.open_context-number.ensures.uses site) (uses_none opened started site c.take_starts.ensures.tables)) c.take_known.ensures.uses
+
+pub take_known-requires-clause-callers : goal.take_known-requires-clause-callers
+take_known-requires-clause-callers g c = inr (omega (arith, c.requires.callers, c.open_context-number.ensures.ready, ap (λ (t : Tables g.row.P-Fact.Denot). slice_index t.spare_callers c.open_context-number.result) c.take_starts.ensures.tables))

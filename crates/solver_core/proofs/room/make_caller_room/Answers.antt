@@ -7,6 +7,6 @@ use Rattle.solver_core.proofs.room.make_caller_room.Goals as goal
 pub returns-clause-room : goal.returns-clause-room
 returns-clause-room g c =
     let tables = c.reserve_entries.new.self in
-    on_ok c.reserve_entries.result _ (HasCallerRoom tables c.args.count c.args.step)
-    (λ room. subst (λ m. HasCallerRoom tables c.args.count m) (sym c.in-Call.is) (caller_room c.args.tables.now tables c.in-Call.context c.in-Some.number c.args.count c.reserve_entries.ensures.same.0 c.requires.distinct c.in-Some.ensures.there room))
+    on_ok c.reserve_entries.result _ (HasCallerRoom tables c.args.context c.args.step)
+    (λ room. subst (λ m. HasCallerRoom tables c.args.context m) (sym c.in-Call.is) (caller_room c.args.tables.now tables c.in-Call.callee c.in-Some.number c.args.context c.in-Call.at c.reserve_entries.ensures.same.0 c.requires.distinct c.in-Some.ensures.there room))
     c.reserve_entries.ensures.callers
