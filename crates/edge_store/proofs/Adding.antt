@@ -52,9 +52,9 @@ module _ {F : Type 0} (pool more : Facts F) (t u : Pages) (context : ℕ) (node 
       → ((q : Page) (b : ℕ) → HasBit u.pages u.bits q b → HasBit t.pages t.bits q b ⊎ ((q ≡ page_with context number page) × (b ≡ place)))
       → ((p : Page) → Contains u.pages p → Contains t.pages p ⊎ ((b : ℕ) × (b < 64) × HasBit u.pages u.bits p b))
       → ((n : ℕ) → get_or more.counts n 0 + uses_of t.pages n ≡ get_or pool.counts n 0 + uses_of u.pages n)
-      → (IsTrue fresh → u.held ≡ t.held + 1) → (fresh ≡ false → u.held ≡ t.held) → more.used ≤ pool.used + 1 → more.spare ≡ pool.spare → u.room + 1 ≡ t.room
+      → (IsTrue fresh → u.held ≡ t.held + 1) → (fresh ≡ false → u.held ≡ t.held) → more.used ≤ pool.used + 1 → more.spare ≡ pool.spare → u.room + 1 ≡ t.room → IsDistinct u.pages
       → AddsEdge pool more t u (spot context node fact) fresh
-  adds_held is_new was there kept from full counts raised stays uses spare left = record {
+  adds_held is_new was there kept from full counts raised stays uses spare left once = record {
     is_new = λ is_fresh. is_bare pool.facts t.pages t.bits context node fact number page place page_is place_is at distinct (is_new is_fresh);
     was = λ stale. is_marked pool.facts t.pages t.bits context node fact number page place page_is place_is at (was stale);
     there = is_marked more.facts u.pages u.bits context node fact number page place page_is place_is at_more there;
@@ -70,6 +70,7 @@ module _ {F : Type 0} (pool more : Facts F) (t u : Pages) (context : ℕ) (node 
     used = uses;
     spare = omega arith;
     left = left;
+    once = once;
   }
 
 -- a new fact gets a number before its edge is added
@@ -100,4 +101,5 @@ module _ {F : Type 0} (pool put more : Facts F) (t u : Pages) (x : Spot F) (fres
         used = omega (arith, adds.used);
         spare = omega arith;
         left = adds.left;
+        once = adds.once;
       }

@@ -160,6 +160,16 @@ module _ {F : Type 0} (pool : Facts F) (tables : List Pages) (room : ℕ) (store
         | inr other ↦ subst (λ (s : Pages). IsFull s p) (sym (other_table k other)) (store.full k p)
       ]
 
+      once_at : (k : ℕ) → IsDistinct (table_at (set tables at u) k).pages
+      once_at k = elim (same_number_or_not k at) [
+        | inl same ↦ subst (λ (j : ℕ). IsDistinct (table_at (set tables at u) j).pages) (sym same) (subst (λ (s : Pages). IsDistinct s.pages) (sym same_table) adds.once)
+        | inr other ↦ subst (λ (s : Pages). IsDistinct s.pages) (sym (other_table k other)) (store.once k)
+      ]
+
+      -- no edge is held twice
+      pub add_once : IsDistinct more.facts → (k : ℕ) → IsDistinct (edges_under (store_of more.facts (set tables at u)) k)
+      add_once distinct k = subst IsDistinct (sym (edges_at more.facts (set tables at u) k)) (edges_once more.facts (table_at (set tables at u) k).pages (table_at (set tables at u) k).bits distinct (once_at k))
+
       pub add_store : IsDistinct more.facts → IsStore more (set tables at u) (room - 1)
       add_store distinct =
           let had : t.room ≤ room = subst (λ (s : Pages). s.room ≤ room) table_is (room_part at within) in
@@ -171,6 +181,7 @@ module _ {F : Type 0} (pool : Facts F) (tables : List Pages) (room : ℕ) (store
                 let uses = sum_by-set (λ (s : Pages). uses_of s.pages n) tables at u no_pages within in
                 let same : uses_of (get_or tables at no_pages).pages n ≡ uses_of t.pages n = ap (λ (s : Pages). uses_of s.pages n) table_is in
                 omega (arith, uses, same, adds.counts n, store.counted n);
+            once = once_at;
             held = count_at;
             full = full_at;
             rooms = omega (arith, adds.left, store.rooms);
@@ -217,6 +228,7 @@ pub empty_store : {F : Type 0} (pool : Facts F) → pool.facts ≡ [] → pool.c
 empty_store pool facts counts used = record {
   distinct = subst IsDistinct (sym facts) (λ i j d below within same. omega arith);
   counted = λ n. ap (λ (xs : List ℕ). get_or xs n 0) counts;
+  once = λ k i j d below within same. omega arith;
   held = λ k. count_none (Has pool.facts [] k) (nothing pool.facts);
   full = λ k p has. absurd (let none = has.1 in omega arith);
   rooms = refl;
@@ -262,11 +274,8 @@ module _ {F : Type 0} (pool more : Facts F) (tables after : List Pages) (facts :
   edges_same k = ap (λ (fs : List F). edges_of fs (table_at after k).pages (table_at after k).bits) facts ∙ ap (λ (ps : List Page). edges_of pool.facts ps (table_at after k).bits) (pages k)
       ∙ ap (λ (bs : List ℕ). edges_of pool.facts (table_at tables k).pages bs) (bits k)
 
-  pub holds_same : (k : ℕ) (e : Spot F) → Holds (store_of pool.facts tables) k e → Holds (store_of more.facts after) k e
-  holds_same k e h = into more.facts after k e (subst (λ (es : List (Spot F)). Contains es e) (sym (edges_same k)) (out pool.facts tables k e h))
-
-  pub holds_back : (k : ℕ) (e : Spot F) → Holds (store_of more.facts after) k e → Holds (store_of pool.facts tables) k e
-  holds_back k e h = into pool.facts tables k e (subst (λ (es : List (Spot F)). Contains es e) (edges_same k) (out more.facts after k e h))
+  pub same_under : (k : ℕ) → edges_under (store_of more.facts after) k ≡ edges_under (store_of pool.facts tables) k
+  same_under k = edges_at more.facts after k ∙ edges_same k ∙ sym (edges_at pool.facts tables k)
 
   -- the parts fit as before where the counts do
   pub same_store : (room total : ℕ) → IsStore pool tables room → more.counts ≡ pool.counts → ((k : ℕ) → (table_at after k).held ≡ (table_at tables k).held)
@@ -275,6 +284,7 @@ module _ {F : Type 0} (pool more : Facts F) (tables after : List Pages) (facts :
   same_store room total store counts held uses rooms fits few = record {
     distinct = subst IsDistinct (sym facts) store.distinct;
     counted = λ n. ap (λ (xs : List ℕ). get_or xs n 0) counts ∙ store.counted n ∙ sym (uses n);
+    once = λ k. subst IsDistinct (sym (pages k)) (store.once k);
     held = λ k. subst (λ (es : List (Spot F)). HasCount (Contains es) (table_at after k).held) (sym (edges_same k))
         (subst (HasCount (Contains (edges_of pool.facts (table_at tables k).pages (table_at tables k).bits))) (sym (held k)) (store.held k));
     full = λ k p. subst (λ (bs : List ℕ). Contains (table_at after k).pages p → (b : ℕ) × (b < 64) × HasBit (table_at after k).pages bs p b) (sym (bits k))
@@ -332,11 +342,8 @@ module _ {F : Type 0} (pool : Facts F) (tables wider : List Pages) (pad : IsPadd
   wide_bits : (k : ℕ) → (table_at wider k).bits ≡ (table_at tables k).bits
   wide_bits k = ap (λ (t : Pages). t.bits) (padded_table tables wider pad k)
 
-  pub padded_kept : (k : ℕ) (e : Spot F) → Holds (store_of pool.facts tables) k e → Holds (store_of pool.facts wider) k e
-  padded_kept = holds_same pool pool tables wider refl wide_pages wide_bits
-
-  pub padded_back : (k : ℕ) (e : Spot F) → Holds (store_of pool.facts wider) k e → Holds (store_of pool.facts tables) k e
-  padded_back = holds_back pool pool tables wider refl wide_pages wide_bits
+  pub padded_same : (k : ℕ) → edges_under (store_of pool.facts wider) k ≡ edges_under (store_of pool.facts tables) k
+  padded_same = same_under pool pool tables wider refl wide_pages wide_bits
 
   pub padded_room : (k : ℕ) → get_or (map (λ (s : Pages). s.room) tables) k 0 ≤ get_or (map (λ (s : Pages). s.room) wider) k 0
   padded_room k =
@@ -358,11 +365,8 @@ module _ {F : Type 0} (pool : Facts F) (tables wider : List Pages) (pad : IsPadd
     all_bits : (k : ℕ) → (table_at (set wider at u) k).bits ≡ (table_at tables k).bits
     all_bits k = part_same wider at t u is within (λ (s : Pages). s.bits) bits k ∙ wide_bits k
 
-    pub raised_kept : (k : ℕ) (e : Spot F) → Holds (store_of pool.facts tables) k e → Holds (store_of more.facts (set wider at u)) k e
-    raised_kept = holds_same pool more tables (set wider at u) facts all_pages all_bits
-
-    pub raised_back : (k : ℕ) (e : Spot F) → Holds (store_of more.facts (set wider at u)) k e → Holds (store_of pool.facts tables) k e
-    raised_back = holds_back pool more tables (set wider at u) facts all_pages all_bits
+    pub raised_same : (k : ℕ) → edges_under (store_of more.facts (set wider at u)) k ≡ edges_under (store_of pool.facts tables) k
+    raised_same = same_under pool more tables (set wider at u) facts all_pages all_bits
 
     pub raised_room : t.room ≤ u.room → (k : ℕ) → get_or (map (λ (s : Pages). s.room) tables) k 0 ≤ get_or (map (λ (s : Pages). s.room) (set wider at u)) k 0
     raised_room higher k = omega (arith, padded_room k, room_raised wider at t u is within higher k)
@@ -456,6 +460,12 @@ module _ {F : Type 0} (pool more : Facts F) (tables : List Pages) (room at : ℕ
     | inr other ↦ subst (λ (s : Pages). IsFull s p) (sym (apart_table k other)) (store.full k p)
   ]
 
+  drop_once : (k : ℕ) → IsDistinct (table_at (set tables at u) k).pages
+  drop_once k = elim (same_number_or_not k at) [
+    | inl same ↦ subst (λ (j : ℕ). IsDistinct (table_at (set tables at u) j).pages) (sym same) (subst (λ (s : Pages). IsDistinct s.pages) (sym bare_table) (λ i j d below within is. omega arith))
+    | inr other ↦ subst (λ (s : Pages). IsDistinct s.pages) (sym (apart_table k other)) (store.once k)
+  ]
+
   pub drop_store : ((n : ℕ) → get_or more.counts n 0 + uses_of t.pages n ≡ get_or pool.counts n 0) → more.used ≤ pool.used → more.spare ≡ pool.spare → IsStore more (set tables at u) (room - t.room)
   drop_store counts used spare =
       let rooms = sum_moved tables at t u is within (λ (s : Pages). s.room) in
@@ -466,6 +476,7 @@ module _ {F : Type 0} (pool more : Facts F) (tables : List Pages) (room at : ℕ
             let moved = sum_moved tables at t u is within (λ (s : Pages). uses_of s.pages n) in
             let bare : uses_of u.pages n ≡ 0 = ap (λ (s : Pages). uses_of s.pages n) empty in
             omega (arith, moved, bare, counts n, store.counted n);
+        once = drop_once;
         held = drop_held;
         full = drop_full;
         rooms = omega (arith, store.rooms);

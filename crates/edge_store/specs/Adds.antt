@@ -1,5 +1,6 @@
 -- What adding one edge does to the pool of facts and to the pages of its method.
 use Rattle.std.specs.Prelude.{◌≡◌, ◌<◌, ◌≤◌, ◌+◌, ◌⊎◌, ℕ, Bool, false, IsTrue, Contains, slice_index}
+use Rattle.ifds_model.specs.State.{IsDistinct}
 use Rattle.edge_store.specs.declared.page.Page.{Page}
 use Rattle.edge_store.specs.Pages.{Spot, HasBit, Marked, uses_of}
 use Rattle.edge_store.specs.Pool.{Facts, KeepsUsed}
@@ -21,3 +22,4 @@ pub record AddsEdge {F : Type 0} (pool more : Facts F) (t u : Pages) (x : Spot F
   pub used : more.used ≤ pool.used + 1
   pub spare : pool.spare ≤ more.spare + 1
   pub left : u.room + 1 ≡ t.room
+  pub once : IsDistinct u.pages

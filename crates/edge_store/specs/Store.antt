@@ -52,6 +52,7 @@ pub record IsStore {F : Type 0} (pool : Facts F) (tables : List Pages) (room : �
   pub distinct : IsDistinct pool.facts
   -- a fact is used once for each page that has it
   pub counted : (n : ℕ) → slice_index pool.counts n ≡ sum_by (λ (t : Pages). uses_of t.pages n) tables
+  pub once : (m : ℕ) → IsDistinct (table_at tables m).pages
   pub held : (m : ℕ) → HasCount (Contains (edges_of pool.facts (table_at tables m).pages (table_at tables m).bits)) (table_at tables m).held
   -- no page is empty
   pub full : (m : ℕ) (p : Page) → Contains (table_at tables m).pages p → (b : ℕ) × (b < 64) × HasBit (table_at tables m).pages (table_at tables m).bits p b

@@ -83,6 +83,7 @@ fn hold<F: Plain>(pool: &mut Pool<F>, table: &mut Table, page: Page, place: u32)
     ensures used { pool.new.used ≤ pool.old.used + 1 }
     ensures spare { pool.new.spare ≡ pool.old.spare }
     ensures room { table.new.room + 1 ≡ table.old.room }
+    ensures once { IsDistinct table.new.pages }
 {
     match table.find(&page) {
         Some(at) => table.mark(at, place),

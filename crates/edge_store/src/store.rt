@@ -92,8 +92,7 @@ impl<F: Plain> EdgeStore<F> {
 
     /// Makes room for so many further edges under a method.
     pub fn reserve(&mut self, m: u64, n: u64) -> Result<(), AllocError>
-        ensures kept { (k : ℕ) (e : Spot F) → Holds self.old k e → Holds self.new k e }
-        ensures from { (k : ℕ) (e : Spot F) → Holds self.new k e → Holds self.old k e }
+        ensures same { (k : ℕ) → edges_under self.new k ≡ edges_under self.old k }
         ensures facts { self.new.facts ≡ self.old.facts }
         ensures spare { (k : ℕ) → spare_of self.old k ≤ spare_of self.new k }
         ensures ok { OnOk result (n ≤ spare_of self.new m) }
@@ -112,6 +111,7 @@ impl<F: Plain> EdgeStore<F> {
         ensures there { Holds self.new m (spot context node fact) }
         ensures kept { (k : ℕ) (e : Spot F) → Holds self.old k e → Holds self.new k e }
         ensures from { (k : ℕ) (e : Spot F) → Holds self.new k e → Holds self.old k e ⊎ ((k ≡ m) × (e ≡ spot context node fact)) }
+        ensures once { (k : ℕ) → IsDistinct (edges_under self.new k) }
         ensures number { At self.new.facts result.number fact }
         ensures facts { (n : ℕ) (f : F) → At self.old.facts n f → IsFact self.old f → At self.new.facts n f }
         ensures room { spare_of self.old m ≤ spare_of self.new m + 1 }
@@ -137,6 +137,7 @@ impl<F: Plain> EdgeStore<F> {
         ensures there { (f : F) → At self.old.facts number f → Holds self.new m (spot context node f) }
         ensures kept { (k : ℕ) (e : Spot F) → Holds self.old k e → Holds self.new k e }
         ensures from { (f : F) → At self.old.facts number f → (k : ℕ) (e : Spot F) → Holds self.new k e → Holds self.old k e ⊎ ((k ≡ m) × (e ≡ spot context node f)) }
+        ensures once { (k : ℕ) → IsDistinct (edges_under self.new k) }
         ensures facts { self.new.facts ≡ self.old.facts }
         ensures room { spare_of self.old m ≤ spare_of self.new m + 1 }
         ensures others { (k : ℕ) → k ≢ m → spare_of self.old k ≤ spare_of self.new k }

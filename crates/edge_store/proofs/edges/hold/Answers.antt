@@ -1,4 +1,5 @@
 use Rattle.std.proofs.Common.{arith}
+use Rattle.edge_store.proofs.Listed.{distinct_push}
 use Rattle.edge_store.proofs.Paged.{set_there, set_kept, set_from, push_there, push_from, uses_push, full_set, full_push}
 use Rattle.edge_store.proofs.edges.hold.Goals as goal
 
@@ -25,3 +26,9 @@ returns-in-Some-clause-full g c = rw c.mark.ensures.pages (full_set c.args.table
 
 pub returns-in-None-clause-full : goal.returns-in-None-clause-full
 returns-in-None-clause-full g c = rw (c.open.ensures.pages, c.open.ensures.bits) (full_push c.args.table.now.pages c.args.table.now.bits c.args.page c.args.place c.find.ensures.even c.find.ensures.distinct c.requires.place)
+
+pub returns-in-Some-clause-once : goal.returns-in-Some-clause-once
+returns-in-Some-clause-once g c = rw c.mark.ensures.pages c.find.ensures.distinct
+
+pub returns-in-None-clause-once : goal.returns-in-None-clause-once
+returns-in-None-clause-once g c = rw c.open.ensures.pages (distinct_push c.args.table.now.pages c.args.page c.find.ensures.distinct c.in-None.ensures.unknown)

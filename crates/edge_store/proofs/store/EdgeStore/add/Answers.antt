@@ -1,6 +1,6 @@
 use Rattle.std.proofs.Common.{◌<◌, inl, inr, length, set, arith}
 use Rattle.edge_store.specs.Pages.{spot}
-use Rattle.edge_store.proofs.Stored.{within_room, room_at, add_store, has_new, has_was, has_there, has_kept, has_from, room_left, room_others, facts_kept, into, out}
+use Rattle.edge_store.proofs.Stored.{within_room, room_at, add_store, has_new, has_was, has_there, has_kept, has_from, add_once, room_left, room_others, facts_kept, into, out}
 use Rattle.edge_store.proofs.store.EdgeStore.add.Goals as goal
 
 pub invariant_of-self : goal.invariant_of-self
@@ -94,3 +94,11 @@ returns-clause-others g c =
 pub returns-clause-facts : goal.returns-clause-facts
 returns-clause-facts g c =
     rw (← c.self.view_is) (facts_kept c.self.inside.pool c.self.inside.tables.items c.self.inside.room c.self.invariant c.add_edge-added.new.pool c.add_edge-added.ensures.adds.numbers)
+
+pub returns-clause-once : goal.returns-clause-once
+returns-clause-once g c =
+    let pool = c.self.inside.pool in
+    let tables = c.self.inside.tables.items in
+    let within : c.args.m < length tables = within_room tables c.args.m (let some = rw (← c.self.view_is) at c.requires in omega (arith, room_at tables c.args.m)) in
+    let x = spot c.args.context c.args.node c.args.fact in
+    add_once pool tables c.self.inside.room c.self.invariant c.args.m c.index_mut.result.now c.index_mut.ensures.value within c.add_edge-added.new.pool c.add_edge-added.new.table x c.add_edge-added.result.is_new c.add_edge-added.ensures.adds c.add_edge-added.ensures.distinct

@@ -2,7 +2,7 @@ use Rattle.std.proofs.Common.{◌<◌, inl, inr, length, set, arith, subst, sym}
 use Rattle.ifds_model.specs.State.{IsDistinct}
 use Rattle.edge_store.specs.Pages.{spot}
 use Rattle.edge_store.proofs.Adding.{item_at}
-use Rattle.edge_store.proofs.Stored.{within_room, room_at, add_store, has_new, has_was, has_there, has_kept, has_from, room_left, room_others, into, out}
+use Rattle.edge_store.proofs.Stored.{within_room, room_at, add_store, has_new, has_was, has_there, has_kept, has_from, add_once, room_left, room_others, into, out}
 use Rattle.edge_store.proofs.store.EdgeStore.add_numbered.Goals as goal
 
 pub invariant_of-self : goal.invariant_of-self
@@ -92,3 +92,11 @@ returns-clause-others g c =
     let x = spot c.args.context c.args.node found.0 in
     let adds = c.add_numbered-is_new.ensures.adds found.0 found.1 in
     rw (← c.self.view_is) (λ k other. room_others pool tables c.self.inside.room c.self.invariant c.args.m c.index_mut.result.now c.index_mut.ensures.value within more u x c.add_numbered-is_new.result adds k other)
+
+pub returns-clause-once : goal.returns-clause-once
+returns-clause-once g c =
+    let pool = c.self.inside.pool in
+    let tables = c.self.inside.tables.items in
+    let within : c.args.m < length tables = within_room tables c.args.m (let some = rw (← c.self.view_is) at c.requires.room in omega (arith, room_at tables c.args.m)) in
+    let found = item_at pool.facts c.args.number (rw (← c.self.view_is) at c.requires.within) in
+    add_once pool tables c.self.inside.room c.self.invariant c.args.m c.index_mut.result.now c.index_mut.ensures.value within c.add_numbered-is_new.new.pool c.add_numbered-is_new.new.table (spot c.args.context c.args.node found.0) c.add_numbered-is_new.result (c.add_numbered-is_new.ensures.adds found.0 found.1) (subst IsDistinct (sym c.add_numbered-is_new.ensures.facts) c.self.invariant.distinct)
