@@ -17,7 +17,7 @@ use Rattle.ifds_model.specs.State.{Caller}
 use Rattle.ifds_model.specs.Events.{TakesIn}
 use Rattle.solver_core.specs.Joins.{call_join}
 use Rattle.solver_core.specs.Numbers.{spread, view_of, context_at, item_of, exited_of, waits_of, live_of, AreNumbers}
-use Rattle.solver_core.specs.declared.edges.Spot.{Spot}
+use Rattle.solver_core.specs.Store.{Held}
 use Rattle.solver_core.specs.declared.pending.Pending.{Pending}
 use Rattle.solver_core.proofs.Numbered.{in_map, from_map, one_place}
 use Rattle.solver_core.proofs.OneMove.{called, takes_call, one_already}
@@ -30,7 +30,7 @@ in_range [] k x has = absurd (omega (arith, has.1))
 in_range (row ∷ rows) zero x has = omega arith
 in_range (row ∷ rows) (suc k) x has = omega (arith, in_range rows k x has)
 
-module _ {F M : Type 0} (P : Machine F M) (cs : List (Context F)) (edges : List (Spot F)) (flights : List (Option (Pending F))) (context callee : ℕ) (at : StmtId) (callers : List (List CallSite)) (exits : List (List F)) (queue : List (Pending F))
+module _ {F M : Type 0} (P : Machine F M) (cs : List (Context F)) (edges : Held F) (flights : List (Option (Pending F))) (context callee : ℕ) (at : StmtId) (callers : List (List CallSite)) (exits : List (List F)) (queue : List (Pending F))
     (fit : AreNumbers cs callers exits edges queue flights) (below : context < length cs) (there : callee < length cs) where
   abbrev here : Context F
   here = context_at P.root cs context
@@ -63,6 +63,7 @@ module _ {F M : Type 0} (P : Machine F M) (cs : List (Context F)) (edges : List 
       distinct = fit.distinct;
       callers_long = long ∙ fit.callers_long;
       exits_long = fit.exits_long;
+      once = fit.once;
       edges_in = fit.edges_in;
       queue_in = joins_within (length cs) queue later (call_join context at callee) (list_at exits callee) joined fit.queue_in (λ x has. (below, there));
       flights_in = fit.flights_in;

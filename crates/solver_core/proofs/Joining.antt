@@ -19,7 +19,7 @@ use Rattle.ifds_model.specs.Events.{TakesIn}
 use Rattle.ifds_model.proofs.Members.{any_default}
 use Rattle.solver_core.specs.Joins.{exit_join}
 use Rattle.solver_core.specs.Numbers.{spread, view_of, context_at, item_of, exited_of, waits_of, AreNumbers, HasNumbersBelow}
-use Rattle.solver_core.specs.declared.edges.Spot.{Spot}
+use Rattle.solver_core.specs.Store.{Held}
 use Rattle.solver_core.specs.declared.pending.Pending.{Pending}
 use Rattle.solver_core.proofs.Numbered.{in_map, from_map, one_place}
 use Rattle.solver_core.proofs.OneMove.{exited, takes_exit, one_already}
@@ -42,7 +42,7 @@ joins_within len queue later f xs is within each w has = elim (Contains-append_c
   | inr joined ↦ let from = from_map f xs w joined in subst (HasNumbersBelow len) (sym from.2) (each from.0 from.1)
 ]
 
-module _ {F M : Type 0} (P : Machine F M) (cs : List (Context F)) (edges : List (Spot F)) (flights : List (Option (Pending F))) (context : ℕ) (callers : List (List CallSite)) (exits : List (List F)) (queue : List (Pending F))
+module _ {F M : Type 0} (P : Machine F M) (cs : List (Context F)) (edges : Held F) (flights : List (Option (Pending F))) (context : ℕ) (callers : List (List CallSite)) (exits : List (List F)) (queue : List (Pending F))
     (fit : AreNumbers cs callers exits edges queue flights) (below : context < length cs) where
   abbrev here : Context F
   here = context_at P.root cs context
@@ -60,6 +60,7 @@ module _ {F M : Type 0} (P : Machine F M) (cs : List (Context F)) (edges : List 
       distinct = fit.distinct;
       callers_long = fit.callers_long;
       exits_long = ap length set ∙ length-set exits context (list_at exits context ++ exit ∷ []) ∙ fit.exits_long;
+      once = fit.once;
       edges_in = fit.edges_in;
       queue_in = joins_within (length cs) queue later (exit_join context exit) (list_at callers context) joined fit.queue_in (λ k has. (fit.callers_in context k has, below));
       flights_in = fit.flights_in;

@@ -22,20 +22,20 @@ use Rattle.ifds_model.proofs.Requeued.{none_apart}
 use Rattle.ifds_model.proofs.Members.{same_count, at_one, at_set, any_default}
 use Rattle.solver_core.specs.Answers.{IsStopped}
 use Rattle.solver_core.specs.Gathered.{IsNew, IsNewTo, KeepsWithin, IsPassed}
-use Rattle.solver_core.specs.Numbers.{context_at, item_of, flight_of, place, view_of, AreNumbers, HasNumbersBelow}
+use Rattle.solver_core.specs.Numbers.{context_at, frame_of, item_of, flight_of, place, view_of, AreNumbers, HasNumbersBelow}
 use Rattle.solver_core.specs.Room.{IsOf, IsSame, edges_of}
 use Rattle.solver_core.specs.Seen.{view_of_parts, AreFit, IsRight, TakesInParts}
 use Rattle.solver_core.specs.declared.answer.CommitStop.{CommitStop}
 use Rattle.solver_core.specs.declared.answer.CommitStop.TheVariants.{EdgeLimit, OutOfMemory}
-use Rattle.solver_core.specs.declared.edges.Spot.{Spot}
 use Rattle.solver_core.specs.declared.parts.Parts.{Parts}
 use Rattle.solver_core.specs.declared.ready.Ready.{Ready}
+use Rattle.solver_core.specs.Store.{Held}
 use Rattle.solver_core.specs.declared.pending.Pending.{Pending}
 use Rattle.solver_core.specs.declared.pending.Pending.TheVariants.{Edge as PendingEdge, Join as PendingJoin}
-use Rattle.solver_core.proofs.Answered.{live_member}
-use Rattle.solver_core.proofs.Counted.{held_once, live_once}
+use Rattle.solver_core.proofs.Counted.{live_once}
 use Rattle.solver_core.proofs.Flown.{at_map, at_map_from}
-use Rattle.solver_core.proofs.Numbered.{in_map, from_map}
+use Rattle.solver_core.proofs.Numbered.{in_map, from_map, one_spot}
+use Rattle.solver_core.proofs.Spread.{map_distinct}
 
 -- a hand that has a work has its item
 pub flies_where : {F : Type 0} (root : Context F) (cs : List (Context F)) (flights : List (Option (Pending F))) (w : ℕ) (o : Option (Pending F)) (busy : Bool) → w < length (map (flight_of root cs) flights) → o ≡ slice_index_or flights w o → busy ≡ is_some o
@@ -81,13 +81,14 @@ pub lag_is : (lag late next period top : ℕ) → next ≡ min (lag + 1) top →
 lag_is lag late next period top sum least within = omega (arith, sum, least, within)
 
 -- a hand that is emptied
-pub emptied_fit : {F : Type 0} (cs : List (Context F)) (callers : List (List CallSite)) (exits : List (List F)) (edges : List (Spot F)) (queue : List (Pending F)) (flights now : List (Option (Pending F))) (w : ℕ) → w < length flights → now ≡ slice_set flights w None
+pub emptied_fit : {F : Type 0} (cs : List (Context F)) (callers : List (List CallSite)) (exits : List (List F)) (edges : Held F) (queue : List (Pending F)) (flights now : List (Option (Pending F))) (w : ℕ) → w < length flights → now ≡ slice_set flights w None
     → AreNumbers cs callers exits edges queue flights → AreNumbers cs callers exits edges queue now
 emptied_fit {F} cs callers exits edges queue flights now w below set fit = subst (AreNumbers cs callers exits edges queue) (sym set) (record {
   workers = omega (arith, fit.workers, length-set {A = Option (Pending F)});
   distinct = fit.distinct;
   callers_long = fit.callers_long;
   exits_long = fit.exits_long;
+  once = fit.once;
   edges_in = fit.edges_in;
   queue_in = fit.queue_in;
   flights_in = λ u has. elim (at_set flights w has.0 None (Some u) below (has.1, has.2)) [
@@ -101,22 +102,22 @@ module _ {F M : Type 0} (P : Machine F M) (s t : Parts F M) (same : IsSame s t) 
   -- the same lists are seen as the same
   pub same_view : (commits lag takes period max_edges : ℕ) → view_of_parts P t commits lag takes period max_edges ≡ view_of_parts P s commits lag takes period max_edges
   same_view commits lag takes period max_edges =
-      ap (λ (x : List (Context F)). view_of P.root x t.tables.callers t.tables.exits t.edges.edges t.queue.items t.flights.items t.marks.items commits lag takes period max_edges) same.contexts
-      ∙ ap (λ (x : List (List CallSite)). view_of P.root s.tables.contexts x t.tables.exits t.edges.edges t.queue.items t.flights.items t.marks.items commits lag takes period max_edges) same.callers
-      ∙ ap (λ (x : List (List F)). view_of P.root s.tables.contexts s.tables.callers x t.edges.edges t.queue.items t.flights.items t.marks.items commits lag takes period max_edges) same.exits
-      ∙ ap (λ (x : List (Spot F)). view_of P.root s.tables.contexts s.tables.callers s.tables.exits x t.queue.items t.flights.items t.marks.items commits lag takes period max_edges) same.edges
-      ∙ ap (λ (x : List (Pending F)). view_of P.root s.tables.contexts s.tables.callers s.tables.exits s.edges.edges x t.flights.items t.marks.items commits lag takes period max_edges) same.queue
-      ∙ ap (λ x. view_of P.root s.tables.contexts s.tables.callers s.tables.exits s.edges.edges s.queue.items x.items t.marks.items commits lag takes period max_edges) same.flights
-      ∙ ap (λ (x : List M). view_of P.root s.tables.contexts s.tables.callers s.tables.exits s.edges.edges s.queue.items s.flights.items x commits lag takes period max_edges) same.marks
+      ap (λ (x : List (Context F)). view_of P.root x t.tables.callers t.tables.exits t.edges.held t.queue.items t.flights.items t.marks.items commits lag takes period max_edges) same.contexts
+      ∙ ap (λ (x : List (List CallSite)). view_of P.root s.tables.contexts x t.tables.exits t.edges.held t.queue.items t.flights.items t.marks.items commits lag takes period max_edges) same.callers
+      ∙ ap (λ (x : List (List F)). view_of P.root s.tables.contexts s.tables.callers x t.edges.held t.queue.items t.flights.items t.marks.items commits lag takes period max_edges) same.exits
+      ∙ ap (λ (x : Held F). view_of P.root s.tables.contexts s.tables.callers s.tables.exits x t.queue.items t.flights.items t.marks.items commits lag takes period max_edges) same.edges
+      ∙ ap (λ (x : List (Pending F)). view_of P.root s.tables.contexts s.tables.callers s.tables.exits s.edges.held x t.flights.items t.marks.items commits lag takes period max_edges) same.queue
+      ∙ ap (λ x. view_of P.root s.tables.contexts s.tables.callers s.tables.exits s.edges.held s.queue.items x.items t.marks.items commits lag takes period max_edges) same.flights
+      ∙ ap (λ (x : List M). view_of P.root s.tables.contexts s.tables.callers s.tables.exits s.edges.held s.queue.items s.flights.items x commits lag takes period max_edges) same.marks
 
   pub same_fit : AreFit s → AreFit t
   same_fit fit =
-      subst (λ (x : List (Context F)). AreNumbers x t.tables.callers t.tables.exits t.edges.edges t.queue.items t.flights.items) (sym same.contexts)
-      (subst (λ (x : List (List CallSite)). AreNumbers s.tables.contexts x t.tables.exits t.edges.edges t.queue.items t.flights.items) (sym same.callers)
-      (subst (λ (x : List (List F)). AreNumbers s.tables.contexts s.tables.callers x t.edges.edges t.queue.items t.flights.items) (sym same.exits)
-      (subst (λ (x : List (Spot F)). AreNumbers s.tables.contexts s.tables.callers s.tables.exits x t.queue.items t.flights.items) (sym same.edges)
-      (subst (λ (x : List (Pending F)). AreNumbers s.tables.contexts s.tables.callers s.tables.exits s.edges.edges x t.flights.items) (sym same.queue)
-      (subst (λ x. AreNumbers s.tables.contexts s.tables.callers s.tables.exits s.edges.edges s.queue.items x.items) (sym same.flights) fit)))))
+      subst (λ (x : List (Context F)). AreNumbers x t.tables.callers t.tables.exits t.edges.held t.queue.items t.flights.items) (sym same.contexts)
+      (subst (λ (x : List (List CallSite)). AreNumbers s.tables.contexts x t.tables.exits t.edges.held t.queue.items t.flights.items) (sym same.callers)
+      (subst (λ (x : List (List F)). AreNumbers s.tables.contexts s.tables.callers x t.edges.held t.queue.items t.flights.items) (sym same.exits)
+      (subst (λ (x : Held F). AreNumbers s.tables.contexts s.tables.callers s.tables.exits x t.queue.items t.flights.items) (sym same.edges)
+      (subst (λ (x : List (Pending F)). AreNumbers s.tables.contexts s.tables.callers s.tables.exits s.edges.held x t.flights.items) (sym same.queue)
+      (subst (λ x. AreNumbers s.tables.contexts s.tables.callers s.tables.exits s.edges.held s.queue.items x.items) (sym same.flights) fit)))))
 
 -- moves that are the same are taken in alike
 module _ {F M : Type 0} (P : Machine F M) (e : Context F) (f g : Move F M → Type 0) (there : (m : Move F M) → f m → g m) (back : (m : Move F M) → g m → f m) where
@@ -170,11 +171,11 @@ module _ {F M : Type 0} (P : Machine F M) (s t : Parts F M) (same : IsSame s t) 
 
     mid_view : view_of_parts P mid counted late takes period max_edges ≡ landed w item Old
     mid_view =
-        ap (λ x. view_of P.root x.contexts x.callers x.exits mid.edges.edges mid.queue.items mid.flights.items mid.marks.items counted late takes period max_edges) tables
-        ∙ ap (λ x. view_of P.root t.tables.contexts t.tables.callers t.tables.exits x.edges mid.queue.items mid.flights.items mid.marks.items counted late takes period max_edges) edges
-        ∙ ap (λ x. view_of P.root t.tables.contexts t.tables.callers t.tables.exits t.edges.edges x.items mid.flights.items mid.marks.items counted late takes period max_edges) queue
-        ∙ ap (λ x. view_of P.root t.tables.contexts t.tables.callers t.tables.exits t.edges.edges t.queue.items mid.flights.items x.items counted late takes period max_edges) marks
-        ∙ ap (λ (x : List (Option (Pending F))). view_of P.root t.tables.contexts t.tables.callers t.tables.exits t.edges.edges t.queue.items x t.marks.items counted late takes period max_edges) emptied
+        ap (λ x. view_of P.root x.contexts x.callers x.exits mid.edges.held mid.queue.items mid.flights.items mid.marks.items counted late takes period max_edges) tables
+        ∙ ap (λ x. view_of P.root t.tables.contexts t.tables.callers t.tables.exits x.held mid.queue.items mid.flights.items mid.marks.items counted late takes period max_edges) edges
+        ∙ ap (λ x. view_of P.root t.tables.contexts t.tables.callers t.tables.exits t.edges.held x.items mid.flights.items mid.marks.items counted late takes period max_edges) queue
+        ∙ ap (λ x. view_of P.root t.tables.contexts t.tables.callers t.tables.exits t.edges.held t.queue.items mid.flights.items x.items counted late takes period max_edges) marks
+        ∙ ap (λ (x : List (Option (Pending F))). view_of P.root t.tables.contexts t.tables.callers t.tables.exits t.edges.held t.queue.items x t.marks.items counted late takes period max_edges) emptied
         ∙ ap (λ (x : List (Option (Item F))). record (view_of_parts P t counted late takes period max_edges) { flights = x }) (map-set (flight_of P.root t.tables.contexts) t.flights.items w None)
         ∙ ap (λ (v : View F M). record v { flights = slice_set v.flights w None }) (same_view P s t same counted late takes period max_edges)
         ∙ ap (λ (n : ℕ). record Old { flights = slice_set Old.flights w None; commits = n; lag = late }) counts
@@ -196,11 +197,11 @@ module _ {F M : Type 0} (P : Machine F M) (s t : Parts F M) (same : IsSame s t) 
         (subst (λ (e : Context F). TakesIn P e (IsOf rs) (view_of_parts P mid counted late takes period max_edges) New) mid_context
         (taken counted late takes period max_edges)))
 
-    within : KeepsWithin P s context moves (sum_by edges_of rs) max_edges → length new.edges.edges ≤ length mid.edges.edges + sum_by edges_of rs → length new.edges.edges ≤ max_edges
-    within (inl few) held = omega (arith, few, held, ap (λ x. length x.edges) edges, ap length same.edges)
+    within : KeepsWithin P s context moves (sum_by edges_of rs) max_edges → new.edges.held.found ≤ mid.edges.held.found + sum_by edges_of rs → new.edges.held.found ≤ max_edges
+    within (inl few) held = omega (arith, few, held, ap (λ x. x.held.found) edges, ap (λ x. x.found) same.edges)
     within (inr count) held = omega (arith, count.2, takes_in.found, more_is P (context_of item) (MovesOf P item) (landed w item Old) New takes_in count.0 (counts_as commits lag takes period max_edges count.0 count.1))
 
-    pub committed : KeepsWithin P s context moves (sum_by edges_of rs) max_edges → length new.edges.edges ≤ length mid.edges.edges + sum_by edges_of rs → Commits P w Old New
+    pub committed : KeepsWithin P s context moves (sum_by edges_of rs) max_edges → new.edges.held.found ≤ mid.edges.held.found + sum_by edges_of rs → Commits P w Old New
     committed limit held = record { item = item; flies = flies; takes_in = takes_in; within = within limit held }
 
     -- and what is so of every state stays
@@ -210,7 +211,7 @@ module _ {F M : Type 0} (P : Machine F M) (s t : Parts F M) (same : IsSame s t) 
         record {
           sound = kept.0;
           tidy = record {
-            held = held_once P New kept.0 (λ e retired. let other = (live_member new.tables.contexts _ retired).0 in cc (other)) (length-map new.edges.edges _);
+            held = map_distinct (frame_of P.root new.tables.contexts) new.edges.held.edges fit.once (λ x y in_x in_y. one_spot P.root new.tables.contexts fit.distinct x y (fit.edges_in x in_x) (fit.edges_in y in_y));
             known = live_once new.tables.contexts fit.distinct;
           };
           lag = kept.1;

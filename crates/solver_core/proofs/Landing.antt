@@ -32,7 +32,7 @@ module _ {F M : Type 0} (P : Machine F M) (s t : Parts F M) (same : IsSame s t) 
       (tables : mid.tables ≡ t.tables) (edges : mid.edges ≡ t.edges) (queue : mid.queue ≡ t.queue) (marks : mid.marks ≡ t.marks)
       (hand : Option (Pending F)) (idle : IfNone hand (At t.flights.items w None)) (emptied : IfSome hand (λ v. mid.flights.items ≡ slice_set t.flights.items w None))
       (value : rs ≡ readies) (steps : map (λ r. r.step) readies ≡ moves) (limit : KeepsWithin P s context moves (sum_by edges_of readies) max_edges)
-      (taken : TakesInParts P context (IsOf rs) mid new) (held : length new.edges.edges ≤ length mid.edges.edges + sum_by edges_of rs)
+      (taken : TakesInParts P context (IsOf rs) mid new) (held : new.edges.held.found ≤ mid.edges.held.found + sum_by edges_of rs)
       (counts : (root : Context F) (cs : List (Context F)) → count ≡ commits_of (item_of root cs work)) (sum : next ≡ min (lag + 1) (2 ^ 64 - 1)) (least : late ≡ min next period) (below : period ≤ 2 ^ 64 - 1) where
     now_empty : mid.flights.items ≡ slice_set t.flights.items w None
     now_empty = emptied_hand hand (At t.flights.items w None) (mid.flights.items ≡ slice_set t.flights.items w None) (not_both t.flights.items w work (subst (λ xs. At xs.items w (Some work)) (sym same.flights) flew)) idle emptied

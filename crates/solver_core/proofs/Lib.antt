@@ -15,6 +15,7 @@ mod Answered
 mod OneMove
 mod Numbered
 mod Spread
+mod Alike
 mod Taking
 mod Joining
 mod Calling

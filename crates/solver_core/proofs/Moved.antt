@@ -20,7 +20,7 @@ use Rattle.solver_core.specs.Numbers.{view_of, item_of, flight_of, AreNumbers, H
 use Rattle.solver_core.specs.Seen.{IsRight}
 use Rattle.solver_core.specs.declared.answer.Job.{Job}
 use Rattle.solver_core.specs.declared.answer.Taken.TheVariants.{Took}
-use Rattle.solver_core.specs.declared.edges.Spot.{Spot}
+use Rattle.solver_core.specs.Store.{Held}
 use Rattle.solver_core.specs.declared.pending.Pending.{Pending}
 use Rattle.solver_core.proofs.Flown.{at_map, at_map_from, none_in_hand}
 
@@ -38,7 +38,7 @@ idle_work {F} root cs flights w at =
     let here = at_map_from (flight_of root cs) flights w None None at in
     (here.0, no_flight root cs (slice_index_or flights w None) here.1)
 
-module _ {F M : Type 0} (root : Context F) (cs : List (Context F)) (callers : List (List CallSite)) (exits : List (List F)) (edges : List (Spot F)) (marks : List M) (commits lag period max_edges : ℕ) where
+module _ {F M : Type 0} (root : Context F) (cs : List (Context F)) (callers : List (List CallSite)) (exits : List (List F)) (edges : Held F) (marks : List M) (commits lag period max_edges : ℕ) where
   abbrev seen : List (Pending F) → List (Option (Pending F)) → ℕ → View F M
   seen queue flights takes = view_of root cs callers exits edges queue flights marks commits lag takes period max_edges
 
@@ -106,7 +106,7 @@ took {X} {F} {M} w place old new item number takes at is job same =
     let one : made ≡ job = cc (same) in
     subst (λ (j : Job X F M). Takes w place old new × At old.queue place j.item × (j.take ≡ new.takes)) one (takes, at, is)
 
-module _ {F : Type 0} (cs : List (Context F)) (callers : List (List CallSite)) (exits : List (List F)) (edges : List (Spot F)) where
+module _ {F : Type 0} (cs : List (Context F)) (callers : List (List CallSite)) (exits : List (List F)) (edges : Held F) where
   abbrev Fit : List (Pending F) → List (Option (Pending F)) → Type 0
   Fit queue flights = AreNumbers cs callers exits edges queue flights
 
@@ -116,6 +116,7 @@ module _ {F : Type 0} (cs : List (Context F)) (callers : List (List CallSite)) (
     distinct = fit.distinct;
     callers_long = fit.callers_long;
     exits_long = fit.exits_long;
+    once = fit.once;
     edges_in = fit.edges_in;
     queue_in = λ u has. fit.queue_in u (removed_was queue place v there u has);
     flights_in = λ u has. elim (at_set flights w has.0 (Some v) (Some u) below (has.1, has.2)) [
@@ -134,6 +135,7 @@ module _ {F : Type 0} (cs : List (Context F)) (callers : List (List CallSite)) (
     distinct = fit.distinct;
     callers_long = fit.callers_long;
     exits_long = fit.exits_long;
+    once = fit.once;
     edges_in = fit.edges_in;
     queue_in = λ u has. elim (Contains-push_cases queue v u has) [
       | inl was ↦ fit.queue_in u was

@@ -75,17 +75,17 @@ module _ {F M : Type 0} (P : Machine F M) (s : Parts F M) (context : ℕ) where
   ]
 
   -- an edge that is held isn't new
-  pub go_held : (node : Node) (fact : F) (a : List (Frame F)) → Contains s.edges.edges (spot context node fact) → Gathers (IsNewTo P s context (λ m. m ≡ Go node fact)) a a
+  pub go_held : (node : Node) (fact : F) (a : List (Frame F)) → Contains s.edges.held.edges (spot context node fact) → Gathers (IsNewTo P s context (λ m. m ≡ Go node fact)) a a
   go_held node fact a has = gathers_none (IsNewTo P s context (λ m. m ≡ Go node fact)) a (λ x new.
-      new.1 (subst (λ (y : Frame F). IsHeld seen y) (sym (go_only node fact x new.0)) (in_map (frame_of P.root s.tables.contexts) s.edges.edges (spot context node fact) has)))
+      new.1 (subst (λ (y : Frame F). IsHeld seen y) (sym (go_only node fact x new.0)) (in_map (frame_of P.root s.tables.contexts) s.edges.held.edges (spot context node fact) has)))
 
-  pub go_new : (node : Node) (fact : F) (e : Context F) (a b : List (Frame F)) → AreFit s → context < length s.tables.contexts → At s.tables.contexts context e → (Contains s.edges.edges (spot context node fact) → ⊥)
+  pub go_new : (node : Node) (fact : F) (e : Context F) (a b : List (Frame F)) → AreFit s → context < length s.tables.contexts → At s.tables.contexts context e → (Contains s.edges.held.edges (spot context node fact) → ⊥)
       → Gathers (λ y. y ≡ at_node e node fact) a b → Gathers (IsNewTo P s context (λ m. m ≡ Go node fact)) a b
   go_new node fact e a b fit below at fresh =
       let same : e ≡ here = sym at.1 ∙ any_default s.tables.contexts context e P.root at.0 in
       let frames : at_node e node fact ≡ at_node here node fact = ap (λ (c : Context F). at_node c node fact) same in
       gathers_as (λ y. y ≡ at_node e node fact) (IsNewTo P s context (λ m. m ≡ Go node fact)) a b
-      (λ x is. (inl (node, fact, refl, is ∙ frames), λ held. fresh_frame P.root s.tables.contexts fit.distinct s.edges.edges (spot context node fact) fit.edges_in below fresh (subst (λ (y : Frame F). IsHeld seen y) (is ∙ frames) held)))
+      (λ x is. (inl (node, fact, refl, is ∙ frames), λ held. fresh_frame P.root s.tables.contexts fit.distinct s.edges.held.edges (spot context node fact) fit.edges_in below fresh (subst (λ (y : Frame F). IsHeld seen y) (is ∙ frames) held)))
       (λ x new. go_only node fact x new.0 ∙ sym frames)
 
   -- a known context starts nothing
@@ -95,7 +95,7 @@ module _ {F M : Type 0} (P : Machine F M) (s : Parts F M) (context : ℕ) where
   -- no frame of a context that isn't known is held
   not_held : AreFit s → (callee : Context F) → (Contains s.tables.contexts callee → ⊥) → (x : Frame F) → x.context ≡ callee → IsHeld seen x → ⊥
   not_held fit callee unknown x is held =
-      let from = from_map (frame_of P.root s.tables.contexts) s.edges.edges x held in
+      let from = from_map (frame_of P.root s.tables.contexts) s.edges.held.edges x held in
       let below = fit.edges_in from.0 from.1 in
       unknown (from.0.context, below, any_default s.tables.contexts from.0.context callee P.root below ∙ sym (ap (λ (y : Frame F). y.context) from.2) ∙ is)
 

@@ -7,8 +7,7 @@ use Rattle.ifds_model.specs.declared.node.Node.{Node}
 use Rattle.ifds_model.specs.Count.{cons_cases}
 use Rattle.ifds_model.specs.State.{IsDistinct}
 use Rattle.solver_core.specs.Numbers.{frame_of, context_at}
-use Rattle.solver_core.specs.Store.{spot}
-use Rattle.solver_core.specs.declared.edges.Spot.{Spot}
+use Rattle.solver_core.specs.Store.{Spot, spot}
 
 order : (i j : ℕ) → (i < j) ⊎ (i ≡ j) ⊎ (j < i)
 order zero zero = inr (inl refl)

@@ -13,7 +13,7 @@ use Rattle.ifds_model.specs.declared.node.Item.TheVariants.{Edge, Join}
 use Rattle.ifds_model.specs.State.{View, Known, Exited, at_node}
 use Rattle.ifds_model.specs.State.{Caller}
 use Rattle.solver_core.specs.Numbers.{spread, view_of, context_at, frame_of, item_of, flight_of, waits_of, exited_of, live_of, AreNumbers, HasNumbersBelow}
-use Rattle.solver_core.specs.declared.edges.Spot.{Spot}
+use Rattle.solver_core.specs.Store.{Held, Spot}
 use Rattle.solver_core.specs.declared.pending.Pending.{Pending}
 use Rattle.solver_core.specs.declared.pending.Pending.TheVariants.{Edge as PendingEdge, Join as PendingJoin}
 
@@ -41,7 +41,7 @@ list_was [] (suc k) x has = absurd (omega (arith, has.1))
 list_was (row ∷ rows) zero x has = has
 list_was (row ∷ rows) (suc k) x has = list_was rows k x has
 
-module _ {F : Type 0} (root : Context F) (cs : List (Context F)) (callers : List (List CallSite)) (exits : List (List F)) (edges : List (Spot F)) (queue : List (Pending F)) (flights : List (Option (Pending F))) (d : Context F)
+module _ {F : Type 0} (root : Context F) (cs : List (Context F)) (callers : List (List CallSite)) (exits : List (List F)) (edges : Held F) (queue : List (Pending F)) (flights : List (Option (Pending F))) (d : Context F)
     (fit : AreNumbers cs callers exits edges queue flights) where
   abbrev more : List (Context F)
   more = cs ++ d ∷ []
@@ -49,7 +49,7 @@ module _ {F : Type 0} (root : Context F) (cs : List (Context F)) (callers : List
   same_context : (n : ℕ) → n < length cs → context_at root more n ≡ context_at root cs n
   same_context n below = get_or_append_left cs (d ∷ []) root n below
 
-  same_frame : (s : Spot F) → Contains edges s → frame_of root more s ≡ frame_of root cs s
+  same_frame : (s : Spot F) → Contains edges.edges s → frame_of root more s ≡ frame_of root cs s
   same_frame s has = ap (λ (e : Context F). at_node e s.node s.fact) (same_context s.context (fit.edges_in s has))
 
   same_item : (w : Pending F) → HasNumbersBelow (length cs) w → item_of root more w ≡ item_of root cs w
@@ -71,7 +71,7 @@ module _ {F : Type 0} (root : Context F) (cs : List (Context F)) (callers : List
       let old : View F M = view_of root cs callers exits edges queue flights marks commits lag takes period max_edges in
       ap (λ (x : List (Item F)). record new { queue = x }) (map_same (item_of root more) (item_of root cs) queue (λ w has. same_item w (fit.queue_in w has)))
       ∙ ap (λ (x : List (Option (Item F))). record new { queue = old.queue; flights = x }) (map_same (flight_of root more) (flight_of root cs) flights same_flight)
-      ∙ ap (λ (x : List (Frame F)). record new { queue = old.queue; flights = old.flights; held = x }) (map_same (frame_of root more) (frame_of root cs) edges same_frame)
+      ∙ ap (λ (x : List (Frame F)). record new { queue = old.queue; flights = old.flights; held = x }) (map_same (frame_of root more) (frame_of root cs) edges.edges same_frame)
       ∙ ap (λ (x : List (Known F)). record new { queue = old.queue; flights = old.flights; held = old.held; known = x }) (map-append live_of cs (d ∷ []))
       ∙ ap (λ (x : List (Caller F)). record old { known = map live_of cs ++ live_of d ∷ []; callers = x; exits = spread exited_of more (exits ++ [] ∷ []) }) same_waits
       ∙ ap (λ (x : List (Exited F)). record old { known = map live_of cs ++ live_of d ∷ []; exits = x }) (spread_push exited_of cs exits d fit.exits_long)
@@ -89,6 +89,7 @@ module _ {F : Type 0} (root : Context F) (cs : List (Context F)) (callers : List
     distinct = all_pairs_push (λ (x y : Context F). x ≢ y) cs d fit.distinct (λ k e below same. fresh (subst (λ (x : Context F). Contains cs x) same (Contains-get_or cs k e below)));
     callers_long = omega (arith, length_push callers [], length_push cs d, fit.callers_long);
     exits_long = omega (arith, length_push exits [], length_push cs d, fit.exits_long);
+    once = fit.once;
     edges_in = λ s has. omega (arith, length_push cs d, fit.edges_in s has);
     queue_in = λ w has. within_now w (fit.queue_in w has);
     flights_in = λ w has. within_now w (fit.flights_in w has);

@@ -35,10 +35,10 @@ module _ {F M : Type 0} where
 
   -- so many edges at most keep within the limit, or so many new ones as these moves lead to
   abbrev pub KeepsWithin : Machine F M → Parts F M → ℕ → List (Move F M) → ℕ → ℕ → Type 0
-  KeepsWithin P parts context moves most limit = (length parts.edges.edges + most ≤ limit)
-      ⊎ ((k : ℕ) × HasCount (IsNewTo P parts context (λ m. Contains moves m)) k × (length parts.edges.edges + k ≤ limit))
+  KeepsWithin P parts context moves most limit = (parts.edges.held.found + most ≤ limit)
+      ⊎ ((k : ℕ) × HasCount (IsNewTo P parts context (λ m. Contains moves m)) k × (parts.edges.held.found + k ≤ limit))
 
   -- the new edges to which these moves lead pass the limit. Want of memory may always come
   abbrev pub IsPassed : Machine F M → Parts F M → ℕ → List (Move F M) → ℕ → CommitStop → Type 0
-  IsPassed P parts context moves limit (EdgeLimit found) = ((k : ℕ) × HasCount (IsNewTo P parts context (λ m. Contains moves m)) k × (limit < length parts.edges.edges + k)) × (found ≡ limit + 1)
+  IsPassed P parts context moves limit (EdgeLimit found) = ((k : ℕ) × HasCount (IsNewTo P parts context (λ m. Contains moves m)) k × (limit < parts.edges.held.found + k)) × (found ≡ limit + 1)
   IsPassed P parts context moves limit OutOfMemory = Unit {0}

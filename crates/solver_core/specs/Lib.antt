@@ -1,4 +1,3 @@
-pub mod Exact
 pub mod Store
 pub mod Numbers
 pub mod Hands

@@ -8,7 +8,7 @@ use Rattle.ifds_model.specs.declared.node.Item.{Item}
 use Rattle.ifds_model.specs.declared.node.Item.TheVariants.{Edge, Join}
 use Rattle.entry_tables.specs.Lists.{list_at}
 use Rattle.entry_tables.specs.declared.tables.CallSite.{CallSite}
-use Rattle.solver_core.specs.declared.edges.Spot.{Spot}
+use Rattle.solver_core.specs.Store.{Held, Spot}
 use Rattle.solver_core.specs.declared.pending.Pending.{Pending}
 use Rattle.solver_core.specs.declared.pending.Pending.TheVariants.{Edge as PendingEdge, Join as PendingJoin}
 
@@ -44,16 +44,16 @@ abbrev pub exited_of : {F : Type 0} → Context F → F → Exited F
 exited_of e x = record { context = e; exit = x }
 
 -- what the parts of a state stand for
-abbrev pub view_of : {F M : Type 0} → Context F → List (Context F) → List (List CallSite) → List (List F) → List (Spot F) → List (Pending F) → List (Option (Pending F)) → List M → ℕ → ℕ → ℕ → ℕ → ℕ → View F M
+abbrev pub view_of : {F M : Type 0} → Context F → List (Context F) → List (List CallSite) → List (List F) → Held F → List (Pending F) → List (Option (Pending F)) → List M → ℕ → ℕ → ℕ → ℕ → ℕ → View F M
 view_of root contexts callers exits edges queue flights marks commits lag takes period max_edges = record {
   queue = map (item_of root contexts) queue;
   flights = map (flight_of root contexts) flights;
-  held = map (frame_of root contexts) edges;
+  held = map (frame_of root contexts) edges.edges;
   known = map live_of contexts;
   callers = spread (waits_of root contexts) contexts callers;
   exits = spread exited_of contexts exits;
   marks = marks;
-  found = length edges;
+  found = edges.found;
   commits = commits;
   lag = lag;
   takes = takes;
@@ -72,12 +72,13 @@ place (PendingEdge c m f) = c
 place (PendingJoin c at k x) = c
 
 -- each number is a context's
-pub record AreNumbers {F : Type 0} (contexts : List (Context F)) (callers : List (List CallSite)) (exits : List (List F)) (edges : List (Spot F)) (queue : List (Pending F)) (flights : List (Option (Pending F))) : Type 0 where
+pub record AreNumbers {F : Type 0} (contexts : List (Context F)) (callers : List (List CallSite)) (exits : List (List F)) (edges : Held F) (queue : List (Pending F)) (flights : List (Option (Pending F))) : Type 0 where
   pub workers : length flights < 2 ^ 32
   pub distinct : IsDistinct contexts
   pub callers_long : length callers ≡ length contexts
   pub exits_long : length exits ≡ length contexts
-  pub edges_in : (s : Spot F) → Contains edges s → s.context < length contexts
+  pub once : IsDistinct edges.edges
+  pub edges_in : (s : Spot F) → Contains edges.edges s → s.context < length contexts
   pub queue_in : (w : Pending F) → Contains queue w → HasNumbersBelow (length contexts) w
   pub flights_in : (w : Pending F) → Contains flights (Some w) → HasNumbersBelow (length contexts) w
   pub callers_in : (k : ℕ) (c : CallSite) → Contains (list_at callers k) c → c.caller < length contexts

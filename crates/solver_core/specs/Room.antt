@@ -116,7 +116,7 @@ module _ {F M : Type 0} where
     pub contexts : new.tables.contexts ≡ old.tables.contexts
     pub callers : new.tables.callers ≡ old.tables.callers
     pub exits : new.tables.exits ≡ old.tables.exits
-    pub edges : new.edges.edges ≡ old.edges.edges
+    pub edges : new.edges.held ≡ old.edges.held
     pub queue : new.queue.items ≡ old.queue.items
     pub flights : new.flights ≡ old.flights
     pub marks : new.marks.items ≡ old.marks.items

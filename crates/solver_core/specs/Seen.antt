@@ -17,10 +17,10 @@ use Rattle.solver_core.specs.declared.parts.Parts.{Parts}
 
 module _ {F M : Type 0} where
   abbrev pub view_of_parts : Machine F M → Parts F M → ℕ → ℕ → ℕ → ℕ → ℕ → View F M
-  view_of_parts P s commits lag takes period max_edges = view_of P.root s.tables.contexts s.tables.callers s.tables.exits s.edges.edges s.queue.items s.flights.items s.marks.items commits lag takes period max_edges
+  view_of_parts P s commits lag takes period max_edges = view_of P.root s.tables.contexts s.tables.callers s.tables.exits s.edges.held s.queue.items s.flights.items s.marks.items commits lag takes period max_edges
 
   abbrev pub AreFit : Parts F M → Type 0
-  AreFit s = AreNumbers s.tables.contexts s.tables.callers s.tables.exits s.edges.edges s.queue.items s.flights.items
+  AreFit s = AreNumbers s.tables.contexts s.tables.callers s.tables.exits s.edges.held s.queue.items s.flights.items
 
   -- the queue has room for what is in hand
   abbrev pub HasRoom : Parts F M → Type 0

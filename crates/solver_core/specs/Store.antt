@@ -1,13 +1,17 @@
 -- What contracts see of the set of held edges.
-use Rattle.std.specs.Prelude.{ℕ, List}
-use Rattle.ifds_model.specs.declared.node.Node.{Node}
-use Rattle.solver_core.specs.declared.edges.Spot.{Spot}
+use Rattle.std.specs.Prelude.{ℕ, List, [], ◌∷◌}
+pub use Rattle.edge_store.specs.Pages.{Spot, spot}
+
+-- the edges that are held, each once, and how many were ever held
+pub record Held (F : Type 0) : Type 0 where
+  pub edges : List (Spot F)
+  pub found : ℕ
 
 pub record Store (F : Type 0) : Type 0 where
-  -- each once
-  pub edges : List (Spot F)
+  pub held : Held F
   -- how many further edges it has room for
   pub spare : ℕ
 
-abbrev pub spot : {F : Type 0} → ℕ → Node → F → Spot F
-spot context node fact = record { context = context; node = node; fact = fact }
+-- one edge, which is the first
+abbrev pub one_edge : {F : Type 0} → Spot F → Held F
+one_edge e = record { edges = e ∷ []; found = 1 }

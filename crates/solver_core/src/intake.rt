@@ -31,7 +31,7 @@ pub fn take_moves<P: Problem>(
     ensures fit { AreFit parts.new }
     ensures taken { TakesInParts (P.machine problem.now) context (IsOf readies.now) parts.old parts.new }
     ensures flights { parts.new.flights ≡ parts.old.flights }
-    ensures held { length parts.new.edges.edges ≤ length parts.old.edges.edges + sum_by edges_of readies.now }
+    ensures held { parts.new.edges.held.found ≤ parts.old.edges.held.found + sum_by edges_of readies.now }
     ensures queue_len { deque_len parts.new.queue ≤ deque_len parts.old.queue + sum_by works_of readies.now }
     ensures queue_room { deque_capacity parts.new.queue ≡ deque_capacity parts.old.queue }
 {
@@ -56,7 +56,7 @@ fn take_move<P: Problem>(
     ensures uses { (at : StmtId) → StandsAt at ready.now.step → Uses (call_site context at) (calls_of ready.now) (calls_of ready.now) (leaves_of ready.now) parts.old.tables parts.new.tables }
     ensures flights { parts.new.flights ≡ parts.old.flights }
     ensures mark_room { vec_len parts.new.marks + vec_capacity parts.old.marks ≤ vec_len parts.old.marks + vec_capacity parts.new.marks + 1 }
-    ensures held { length parts.new.edges.edges ≤ length parts.old.edges.edges + edges_of ready.now }
+    ensures held { parts.new.edges.held.found ≤ parts.old.edges.held.found + edges_of ready.now }
     ensures edge_room { parts.old.edges.spare ≤ parts.new.edges.spare + edges_of ready.now }
     ensures queue_len { deque_len parts.new.queue ≤ deque_len parts.old.queue + works_of ready.now }
     ensures queue_room { deque_capacity parts.new.queue ≡ deque_capacity parts.old.queue }
@@ -95,7 +95,7 @@ fn take_call<P: Problem>(
     ensures uses { Uses (call_site context at) 1 1 0 parts.old.tables parts.new.tables }
     ensures flights { parts.new.flights ≡ parts.old.flights }
     ensures marks { parts.new.marks ≡ parts.old.marks }
-    ensures held { length parts.new.edges.edges ≤ length parts.old.edges.edges + length starts.now }
+    ensures held { parts.new.edges.held.found ≤ parts.old.edges.held.found + length starts.now }
     ensures edge_room { parts.old.edges.spare ≤ parts.new.edges.spare + length starts.now }
     ensures queue_len { (n : ℕ) → length starts.now ≤ n → ((k : ℕ) → At parts.old.tables.contexts k callee → length (exits_of parts.old.tables k) ≤ n) → deque_len parts.new.queue ≤ deque_len parts.old.queue + n }
     ensures queue_room { deque_capacity parts.new.queue ≡ deque_capacity parts.old.queue }

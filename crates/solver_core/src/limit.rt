@@ -60,7 +60,7 @@ pub fn keep_limit<P: Problem>(
     ensures within { OnOk result (KeepsWithin (P.machine problem.now) parts.now context moves.now most max_edges) }
     ensures stopped { IfErr result (λ e. IsPassed (P.machine problem.now) parts.now context moves.now max_edges e) }
 {
-    let found = parts.edges.len();
+    let found = parts.edges.found();
     if !passes_limit(found, most, max_edges) {
         return Ok(());
     }

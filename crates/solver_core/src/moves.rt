@@ -36,7 +36,7 @@ pub fn take_go<P: Problem>(
     ensures tables { parts.new.tables ≡ parts.old.tables }
     ensures flights { parts.new.flights ≡ parts.old.flights }
     ensures marks { parts.new.marks ≡ parts.old.marks }
-    ensures held { length parts.new.edges.edges ≤ length parts.old.edges.edges + 1 }
+    ensures held { parts.new.edges.held.found ≤ parts.old.edges.held.found + 1 }
     ensures edge_room { parts.old.edges.spare ≤ parts.new.edges.spare + 1 }
     ensures queue_len { deque_len parts.new.queue ≤ deque_len parts.old.queue + 1 }
     ensures queue_room { deque_capacity parts.new.queue ≡ deque_capacity parts.old.queue }
@@ -224,7 +224,7 @@ fn take_starts<P: Problem>(
     ensures tables { parts.new.tables ≡ parts.old.tables }
     ensures flights { parts.new.flights ≡ parts.old.flights }
     ensures marks { parts.new.marks ≡ parts.old.marks }
-    ensures held { length parts.new.edges.edges ≤ length parts.old.edges.edges + length starts.now }
+    ensures held { parts.new.edges.held.found ≤ parts.old.edges.held.found + length starts.now }
     ensures edge_room { parts.old.edges.spare ≤ parts.new.edges.spare + length starts.now }
     ensures queue_len { deque_len parts.new.queue ≤ deque_len parts.old.queue + length starts.now }
     ensures queue_room { deque_capacity parts.new.queue ≡ deque_capacity parts.old.queue }
@@ -256,7 +256,7 @@ pub fn take_unknown<P: Problem>(
     ensures uses { Uses (call_site context at) 1 1 0 parts.old.tables parts.new.tables }
     ensures flights { parts.new.flights ≡ parts.old.flights }
     ensures marks { parts.new.marks ≡ parts.old.marks }
-    ensures held { length parts.new.edges.edges ≤ length parts.old.edges.edges + length starts.now }
+    ensures held { parts.new.edges.held.found ≤ parts.old.edges.held.found + length starts.now }
     ensures edge_room { parts.old.edges.spare ≤ parts.new.edges.spare + length starts.now }
     ensures queue_len { deque_len parts.new.queue ≤ deque_len parts.old.queue + length starts.now }
     ensures queue_room { deque_capacity parts.new.queue ≡ deque_capacity parts.old.queue }

@@ -4,10 +4,10 @@ ghost use Rattle.std.specs.Prelude.{◌≡◌, ◌≤◌, ◌∷◌, [], length,
 ghost use Rattle.std.specs.VecDeque.{deque_len, deque_capacity};
 ghost use Rattle.ifds_model.specs.declared.node.Context.{Context};
 ghost use Rattle.solver_core.specs.Numbers.{item_of, HasNumbersBelow};
-ghost use Rattle.solver_core.specs.Store.{spot};
+ghost use Rattle.solver_core.specs.Store.{one_edge, spot};
 ghost use Rattle.solver_core.specs.declared.pending.Pending.TheVariants.{Edge as PendingEdge};
 
-use crate::edges::EdgeStore;
+use crate::edges::Edges;
 use crate::pending::Pending;
 use clean_base::Plain;
 use entry_tables::EntryTables;
@@ -19,7 +19,7 @@ use std::collections::VecDeque;
 #[derive(Drop)]
 pub struct Parts<F: Plain, M: Plain> {
     pub tables: EntryTables<F>,
-    pub edges: EdgeStore<F>,
+    pub edges: Edges<F>,
     pub queue: VecDeque<Pending<F>>,
     pub flights: Vec<Option<Pending<F>>>,
     pub marks: Vec<M>,
@@ -52,10 +52,10 @@ fn root_tables<F: Plain>(alloc: Global, root: Context<F>) -> Result<EntryTables<
 }
 
 // The edge at which the root starts.
-fn root_edge<F: Plain>(alloc: Global, node: Node, fact: F) -> Result<EdgeStore<F>, AllocError>
-    ensures { IfOk result (λ s. s.edges ≡ spot 0 node fact ∷ []) }
+fn root_edge<F: Plain>(alloc: Global, node: Node, fact: F) -> Result<Edges<F>, AllocError>
+    ensures { IfOk result (λ s. s.held ≡ one_edge (spot 0 node fact)) }
 {
-    let mut edges = EdgeStore::new(alloc);
+    let mut edges = Edges::new(alloc);
     edges.reserve(1)?;
     edges.add(0, node, fact);
     Ok(edges)
@@ -82,7 +82,7 @@ pub fn first_parts<F: Plain, M: Plain>(
     ensures contexts { IfOk result (λ s. s.tables.contexts ≡ root ∷ []) }
     ensures callers { IfOk result (λ s. s.tables.callers ≡ [] ∷ []) }
     ensures exits { IfOk result (λ s. s.tables.exits ≡ [] ∷ []) }
-    ensures edges { IfOk result (λ s. s.edges.edges ≡ spot 0 node root.fact ∷ []) }
+    ensures edges { IfOk result (λ s. s.edges.held ≡ one_edge (spot 0 node root.fact)) }
     ensures queue { IfOk result (λ s. s.queue.items ≡ PendingEdge 0 node root.fact ∷ []) }
     ensures room { IfOk result (λ s. deque_len s.queue ≤ deque_capacity s.queue) }
     ensures flights { IfOk result (λ s. s.flights.items ≡ replicate workers None) }

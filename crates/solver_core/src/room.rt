@@ -42,7 +42,7 @@ pub fn make_room<F: Plain, M: Plain>(
     let works = plus(work_count(readies)?, in_flight as u64)?;
     let edges = edge_count(readies)?;
     parts.queue.reserve(works as usize)?;
-    parts.edges.reserve(edges as usize)?;
+    parts.edges.reserve(edges)?;
     parts.marks.reserve(readies.len())?;
     make_entry_room(&mut parts.tables, context, readies, kinds)
 }

@@ -1,17 +1,9 @@
-// Sets of plain items that keep the order of adding. The store of edges and the count of new edges stand above.
+// Sets of plain items that keep the order of adding. The count of new edges stands above.
 ghost use Rattle.std.specs.Prelude.{◌≡◌, ◌≤◌, ◌<◌, ◌+◌, ◌++◌, ◌∷◌, [], IsTrue, false, Contains};
 ghost use Rattle.indexmap.specs.IndexSet.{spare};
 
 use clean_base::Plain;
 use indexmap::IndexSet;
-
-/// Whether an item is there.
-pub fn has_item<T: Plain>(items: &IndexSet<T>, item: &T) -> bool
-    ensures yes { IsTrue result → Contains items.now.keys item.now }
-    ensures no { result ≡ false → ¬ Contains items.now.keys item.now }
-{
-    items.contains(item)
-}
 
 /// Adds an item where it is not there yet, and tells whether it is new.
 pub fn add_once<T: Plain>(items: &mut IndexSet<T>, item: T) -> bool

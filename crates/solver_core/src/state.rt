@@ -140,7 +140,7 @@ impl<'a, P: Problem> State<'a, P> {
         ensures found { HasCount (IsFound (P.machine self.now.problem) self.now.view) result }
         ensures sound { IsRight (P.machine self.now.problem) (P.reaches self.now.problem) self.now.view }
     {
-        self.parts.edges.len()
+        self.parts.edges.found()
     }
 
     /// A worker takes the item at a place of the queue, counted from the front, or the first, where one waits.
@@ -247,7 +247,7 @@ impl<'a, P: Problem> State<'a, P> {
         let commits = self.commits;
         let parts = self.parts;
         let contexts = parts.tables.contexts();
-        let edges = parts.edges.len();
+        let edges = parts.edges.found();
         let marks = in_order(parts.marks)?;
         Ok(Answer {
             marks,

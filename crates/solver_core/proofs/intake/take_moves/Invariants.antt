@@ -15,7 +15,7 @@ invariant-loop-ready g l = record {
   starts : (r : _) → Contains l.readies r → HasStarts (g.P.Problem.machine l.problem) l.parts.tables r.starts.items r.step;
   room : HasRoomFor l.context l.parts (drop l.ready-index l.readies);
   flights : l.parts.flights ≡ l.fn.parts.flights;
-  held : length l.parts.edges.edges ≤ length l.fn.parts.edges.edges + sum_by edges_of (take l.ready-index l.readies);
+  held : l.parts.edges.held.found ≤ l.fn.parts.edges.held.found + sum_by edges_of (take l.ready-index l.readies);
   queue_len : deque_len l.parts.queue ≤ deque_len l.fn.parts.queue + sum_by works_of (take l.ready-index l.readies);
   queue_room : deque_capacity l.parts.queue ≡ deque_capacity l.fn.parts.queue;
 }

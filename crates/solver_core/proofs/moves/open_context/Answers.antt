@@ -5,12 +5,12 @@ use Rattle.solver_core.proofs.moves.open_context.Goals as goal
 pub returns-clause-fit : goal.returns-clause-fit
 returns-clause-fit g c =
     let parts = c.args.parts.now in
-    widened_fit_as (g.P.Problem.machine c.args.problem.now).root parts.tables.contexts parts.tables.callers parts.tables.exits parts.edges.edges parts.queue.items parts.flights.items c.args.context c.requires.fit _ _ _ c.open_context.ensures.contexts c.open_context.ensures.callers c.open_context.ensures.exits c.requires.unknown
+    widened_fit_as (g.P.Problem.machine c.args.problem.now).root parts.tables.contexts parts.tables.callers parts.tables.exits parts.edges.held parts.queue.items parts.flights.items c.args.context c.requires.fit _ _ _ c.open_context.ensures.contexts c.open_context.ensures.callers c.open_context.ensures.exits c.requires.unknown
 
 pub returns-clause-opened : goal.returns-clause-opened
 returns-clause-opened g c = λ commits lag takes period max_edges.
     let parts = c.args.parts.now in
-    widened_as (g.P.Problem.machine c.args.problem.now).root parts.tables.contexts parts.tables.callers parts.tables.exits parts.edges.edges parts.queue.items parts.flights.items c.args.context c.requires.fit _ _ _ c.open_context.ensures.contexts c.open_context.ensures.callers c.open_context.ensures.exits parts.marks.items commits lag takes period max_edges
+    widened_as (g.P.Problem.machine c.args.problem.now).root parts.tables.contexts parts.tables.callers parts.tables.exits parts.edges.held parts.queue.items parts.flights.items c.args.context c.requires.fit _ _ _ c.open_context.ensures.contexts c.open_context.ensures.callers c.open_context.ensures.exits parts.marks.items commits lag takes period max_edges
 
 pub returns-clause-uses : goal.returns-clause-uses
 returns-clause-uses g c =

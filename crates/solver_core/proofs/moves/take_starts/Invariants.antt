@@ -10,7 +10,7 @@ invariant-loop-node g l = record {
   tables : l.parts.tables ≡ l.fn.parts.tables;
   flights : l.parts.flights ≡ l.fn.parts.flights;
   marks : l.parts.marks ≡ l.fn.parts.marks;
-  held : length l.parts.edges.edges ≤ length l.fn.parts.edges.edges + l.node-index;
+  held : l.parts.edges.held.found ≤ l.fn.parts.edges.held.found + l.node-index;
   edge_room : l.fn.parts.edges.spare ≤ l.parts.edges.spare + l.node-index;
   queue_len : deque_len l.parts.queue ≤ deque_len l.fn.parts.queue + l.node-index;
   queue_room : deque_capacity l.parts.queue ≡ deque_capacity l.fn.parts.queue;

@@ -14,7 +14,7 @@ returns-clause-edges g c =
     let p = c.self.inside.problem.now in
     let over = rw (← c.self.view_is) at c.requires.over in
     let whole = edges_whole (g.P.Problem.machine p) (g.P.Problem.method_of p) (g.P.Problem.reaches p) c.lawful.ensures _ c.self.invariant.2 over in
-    rw (← c.self.view_is) (subst (HasCount (IsEdge (g.P.Problem.machine p))) (sym c.len-edges.ensures) whole)
+    rw (← c.self.view_is) (subst (HasCount (IsEdge (g.P.Problem.machine p))) (sym c.found-edges.ensures) whole)
 
 pub returns-clause-contexts : goal.returns-clause-contexts
 returns-clause-contexts g c =
@@ -27,7 +27,7 @@ pub returns-clause-commits : goal.returns-clause-commits
 returns-clause-commits g c =
     let p = c.self.inside.problem.now in
     let over = rw (← c.self.view_is) at c.requires.over in
-    commits_whole (g.P.Problem.machine p) (g.P.Problem.method_of p) (g.P.Problem.reaches p) c.lawful.ensures _ c.self.invariant.2 over ∙ sym c.len-edges.ensures
+    commits_whole (g.P.Problem.machine p) (g.P.Problem.method_of p) (g.P.Problem.reaches p) c.lawful.ensures _ c.self.invariant.2 over ∙ sym c.found-edges.ensures
 
 pub returns-clause-limit : goal.returns-clause-limit
-returns-clause-limit g c = rw (← c.self.view_is) (omega (arith, c.len-edges.ensures, c.self.invariant.2.sound.counts.within))
+returns-clause-limit g c = rw (← c.self.view_is) (omega (arith, c.found-edges.ensures, c.self.invariant.2.sound.counts.within))

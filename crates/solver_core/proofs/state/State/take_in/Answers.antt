@@ -77,7 +77,7 @@ take_moves-requires-clause-fit g c =
     let flew = subst (λ xs. At xs c.args.w (Some work)) c.as_slice.ensures.value c.in-Some.ensures in
     let now = subst (λ xs. At xs.items c.args.w (Some work)) (sym same.flights) flew in
     let emptied = emptied_hand c.hand_back.result (At t.flights.items c.args.w None) (c.hand_back.new.flights.items ≡ slice_set t.flights.items c.args.w None) (not_both t.flights.items c.args.w work now) c.hand_back.ensures.idle c.hand_back.ensures.emptied in
-    emptied_fit t.tables.contexts t.tables.callers t.tables.exits t.edges.edges t.queue.items t.flights.items c.hand_back.new.flights.items c.args.w now.0 emptied (same_fit machine s t same c.self.invariant.1.0)
+    emptied_fit t.tables.contexts t.tables.callers t.tables.exits t.edges.held t.queue.items t.flights.items c.hand_back.new.flights.items c.args.w now.0 emptied (same_fit machine s t same c.self.invariant.1.0)
 
 pub take_moves-requires-clause-known : goal.take_moves-requires-clause-known
 take_moves-requires-clause-known g c =
