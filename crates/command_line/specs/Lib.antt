@@ -6,3 +6,4 @@ pub mod Check
 pub mod Main
 pub mod Graph
 pub mod Serial
+pub mod Replay

@@ -27,7 +27,12 @@ fn number_of(text: &str) -> Option<u64>
 }
 
 // The number of an option, from the lowest to the highest, or the default where it isn't given.
-fn number_given(text: Option<&str>, lowest: u64, highest: u64, default: u64) -> Option<u64>
+pub(crate) fn number_given(
+    text: Option<&str>,
+    lowest: u64,
+    highest: u64,
+    default: u64,
+) -> Option<u64>
     ensures some { IfSome result (IsNumber lowest highest default (option_map (λ s. s.now) text.entry)) }
     ensures none { IfNone result ((n : ℕ) → IsNumber lowest highest default (option_map (λ s. s.now) text.entry) n → ⊥) }
 {

@@ -1,6 +1,6 @@
 // Lines of words, and what they ask for. In a row's text bars stand between the words.
 use clean_base::{Seq, Word};
-use command_line::{Input, Root, read_check, read_graph, read_main, read_serial};
+use command_line::{Input, Root, read_check, read_graph, read_main, read_replay, read_serial};
 use std::alloc::{AllocError, Global};
 use std::test::Fail;
 
@@ -92,8 +92,44 @@ static SERIALS: [(&str, &str, &str, (u8, u64, u64)); 8] = [
     ),
 ];
 
+// Words of `replay`: the root, the schedule, the files, the number of workers, and the three numbers.
+static REPLAYS: [(&str, &str, &str, &str, u32, (u8, u64, u64)); 4] = [
+    (
+        "replay|--entry|<A: void m()>|--lists|L|--schedule|S|A",
+        "m",
+        "S",
+        "A",
+        1,
+        (5, 256, MOST),
+    ),
+    (
+        "replay|A|--schedule=-s|--components|C|--workers|64|--lists|L|B",
+        "C",
+        "-s",
+        "A|B",
+        64,
+        (5, 256, MOST),
+    ),
+    (
+        "replay|--components|C|--lists|L|--schedule|S|--workers=02|--k|1|--period=2|--max-edges|3|A",
+        "C",
+        "S",
+        "A",
+        2,
+        (1, 2, 3),
+    ),
+    (
+        "replay|--components|C|--lists=L|--schedule|L|--|A|--workers",
+        "C",
+        "L",
+        "A|--workers",
+        1,
+        (5, 256, MOST),
+    ),
+];
+
 // Words of no command.
-static REFUSED: [&str; 53] = [
+static REFUSED: [&str; 61] = [
     "",
     "check",
     "check|--",
@@ -147,6 +183,14 @@ static REFUSED: [&str; 53] = [
     "serial|--components|C|--lists|L|--max-edges|000000000000000000001|A",
     "serial|--components|C|--lists|L|--workers|1|A",
     "serial|--components|C|--lists|L|--|A|--k|1|",
+    "serial|--components|C|--lists|L|--schedule|S|A",
+    "replay|--components|C|--lists|L|A",
+    "replay|--components|C|--schedule|S|A",
+    "replay|--components|C|--lists|L|--schedule|S",
+    "replay|--components|C|--lists|L|--schedule|S|--workers|0|A",
+    "replay|--components|C|--lists|L|--schedule|S|--workers|65|A",
+    "replay|--components|C|--lists|L|--schedule|S|--schedule|S|A",
+    "replay|--components|C|--lists|L|--schedule|-|A",
 ];
 
 fn words_of(alloc: Global, row: &str) -> Result<Vec<Word>, AllocError> {
@@ -220,6 +264,23 @@ fn serials(alloc: Global, row: (&str, &str, &str, (u8, u64, u64))) -> Result<boo
     })
 }
 
+fn replays(
+    alloc: Global,
+    row: (&str, &str, &str, &str, u32, (u8, u64, u64)),
+) -> Result<bool, AllocError> {
+    let words = words_of(alloc, row.0)?;
+    Ok(match read_replay(alloc, words.as_slice())? {
+        Some(replay) => {
+            let tuning = replay.tuning;
+            is_input(&replay.input, row.1, "L", row.3)
+                && replay.schedule.as_str() == row.2
+                && replay.workers == row.4
+                && (tuning.k, tuning.period, tuning.max_edges) == row.5
+        }
+        None => false,
+    })
+}
+
 fn are_refused(alloc: Global, row: &str) -> Result<bool, AllocError> {
     let words = words_of(alloc, row)?;
     let words = words.as_slice();
@@ -227,7 +288,8 @@ fn are_refused(alloc: Global, row: &str) -> Result<bool, AllocError> {
         read_check(alloc, words)?.is_none()
             && read_main(alloc, words)?.is_none()
             && read_graph(alloc, words)?.is_none()
-            && read_serial(alloc, words)?.is_none(),
+            && read_serial(alloc, words)?.is_none()
+            && read_replay(alloc, words)?.is_none(),
     )
 }
 
@@ -254,6 +316,9 @@ fn lines_of_words(rt: HostRuntime) {
     }
     for row in &SERIALS {
         assert!(rt; serials(alloc, *row).expect(&rt, "memory"), "{}", row.0);
+    }
+    for row in &REPLAYS {
+        assert!(rt; replays(alloc, *row).expect(&rt, "memory"), "{}", row.0);
     }
     for row in &REFUSED {
         assert!(rt; are_refused(alloc, *row).expect(&rt, "memory"), "{}", *row);
