@@ -1,0 +1,5 @@
+pub mod Numbers
+pub mod Texts
+pub mod Once
+pub mod Lines
+pub mod Lists

@@ -1,0 +1,3 @@
+pub mod Schedules
+pub mod Reading
+pub mod Ordered
